@@ -1,14 +1,14 @@
 /* kefs.h, version 1.1: failure-atomic msync on a program's own memory (Park, Kelly and Shen, "Failure-Atomic msync()",
    EuroSys 2013), over the proved plans of libfamsync.a. An image is one host file that holds up to 64 files of fixed
    lengths, under 2^32 bytes each (docs/FORMATS.md). A program maps some of them, stores to the memory, and commits
-   what it has stored. New images are of layout 3, and those of layout 2 are opened too.
+   what it has stored. New images are of layout 4, and those of layouts 2 and 3 are opened too.
 
    After a commit has returned KEFS_OK each page that it took is durable, in all files at once. After a crash or a
    power cut at any moment the files are as after some prefix of the commits, each of them whole, and no commit that
    returned KEFS_OK is missing. That a plan of device calls does so is proved; that this library makes the calls of
    the plan and finds each dirty page is C, and tested. All of it rests on a host file that no other program writes
    or maps while it is open here, and on a device that keeps what was synced. Of what was not synced a cut may leave any
-   bytes in each sector of 512 bytes that was written, and, with layout 3, in each block of 4,096 bytes that has such a
+   bytes in each sector of 512 bytes that was written, and, but for layout 2, in each block of 4,096 bytes that has such a
    sector; in no other. (In an image of layout 2 a block that is torn in all its sectors may be one that had other parts.)
 
    Results. A call that can fail returns an int: KEFS_OK (0), an errno value (over 0), or one of enum kefs_result (under
@@ -34,7 +34,7 @@
    that is stored to while kefs_commit runs, any mix of older and newer bytes becomes durable, and the page stays dirty:
    the next commit takes it again. So a program that wants whole transactions holds its own lock over its stores and
    over kefs_commit. No call may be made in a signal handler. No call is a cancellation point of pthread_cancel, and
-   each takes up to 96 KiB of its thread's stack.
+   each takes up to 128 KiB of its thread's stack.
 
    Fork. A child has no image and no mapping: an access of the memory is a SIGSEGV there, and each call on an inherited
    handle returns KEFS_FORKED and does nothing. Only kefs_close in a child lets go the handle and the file descriptors
@@ -73,7 +73,7 @@ extern "C" {
 enum {
   KEFS_PAGE = 4096,       /* bytes of a page */
   KEFS_FILES = 64,        /* files of an image at most, numbered from 0 on */
-  KEFS_MOST_PAGES = 1023  /* pages of one commit at most */
+  KEFS_MOST_PAGES = 1023  /* pages of one commit at most, of layouts 2 and 3; kefs_stat says how many of any image */
 };
 
 enum kefs_result {
@@ -82,7 +82,7 @@ enum kefs_result {
   KEFS_BAD_JOURNAL = -31002, /* the image's journal has a map that no commit writes */
   KEFS_BUSY = -31003,        /* another process or handle has the image open, and the wait for it is over */
   KEFS_NO_FILE = -31004,     /* the image has no file of this number, or the file is not mapped where it has to be */
-  KEFS_TOO_MANY = -31005,    /* over 1,023 dirty pages in one commit */
+  KEFS_TOO_MANY = -31005,    /* more dirty pages in one commit than it may take */
   KEFS_READ_ONLY = -31006,   /* the image was opened with KEFS_RDONLY or KEFS_SNAPSHOT, or the file may only be read */
   KEFS_BAD_RANGE = -31007,   /* bytes that do not lie in one mapped file */
   KEFS_DEVICE = -31008,      /* a read, write or sync of the host file failed */
@@ -117,8 +117,8 @@ const char *kefs_errmsg(const kefs_image *image);
 /* Flags of a file. */
 enum {
   KEFS_FILE_READ_ONLY = 1, /* no program may store to it */
-  KEFS_FILE_SPARSE = 2     /* its length is a bound: a page takes room on the device when it is first committed, and so
-                              do the journals of an image that has such a file */
+  KEFS_FILE_SPARSE = 2     /* its length is a bound: a page takes room on the device as commits need it, and so does the
+                              pool of an image that has such a file */
 };
 
 /* A file of a new image. */
@@ -129,12 +129,13 @@ struct kefs_file {
 };
 
 /* Makes an image at `path`, where nothing may be, of `count` files, 0 to 64, that get the numbers from 0 on, with these
-   access permissions (as 0640, less the umask; 0 is 0600). It is durable when the call returns. It has 8,400,896 bytes beside its
-   files. Its room on the device is taken, where the file system can do so, but where a file is sparse that of 16,384
-   bytes and of the other files: the rest follows as commits need it, at most 8 MiB for the journals. A stop at any moment, and a failure, leave the whole image
-   at `path`, or nothing there, and once it is there it is not taken away: another process may have it. (Where the file system has no
-   unnamed files, a stop may leave a file `path`.new-PID-NUMBER, which may be removed.)
-   EINVAL: over 64 files, or a flag that is none. EEXIST: something is at `path`. EFBIG: the files need over 2^30 pages,
+   access permissions (as 0640, less the umask; 0 is 0600). It is durable when the call returns. It has 16,572,416 bytes beside its
+   files, most of them a pool of 4,032 slots, in which pages stay that were committed. Its room on the device is taken, where the
+   file system can do so, but where a file is sparse that of 40,960 bytes and of the other files: the rest follows as commits need
+   it. A stop at any moment, and a failure, leave the whole image at `path`, or nothing there, and once it is there it is not taken
+   away: another process may have it. (Where the file system has no unnamed files, a stop may leave a file `path`.new-PID-NUMBER,
+   which may be removed.)
+   EINVAL: over 64 files, or a flag that is none. EEXIST: something is at `path`. EFBIG: the files need over 2^30 - 4 pages,
    or the file system, or the process (ulimit -f), has no files so large. ENOSPC, EDQUOT: there is no room. ENOMEM. KEFS_DEVICE: a
    write or a sync failed; if that of the folder, the image is at `path`, and an opening with KEFS_CREATE tries that sync again. Other
    errno values as of open(2) and linkat(2). */
@@ -145,7 +146,7 @@ int kefs_format(const char *path, unsigned permissions, const struct kefs_file *
 /* Flags of an opening. At most one tracker: with none it is scan, or else signal where the system has no scan;
    kefs_stat says which. */
 enum {
-  KEFS_RDONLY = 1,        /* reads only, beside other readers, and writes nothing: a journal with pages is read through */
+  KEFS_RDONLY = 1,        /* reads only, beside other readers, and writes nothing: a journal or a pool with pages is read through */
   KEFS_NOWAIT = 2,        /* KEFS_BUSY at once, where the call would wait until another one lets the image go, or a reader has had its turn */
   KEFS_TRACK_SCAN = 4,
   KEFS_TRACK_SIGNAL = 8,
@@ -155,7 +156,8 @@ enum {
   KEFS_SNAPSHOT = 128     /* reads only, beside one writer and any readers: the files as after some commit */
 };
 
-/* KEFS_LAZY. kefs_map costs nothing for each page, and memory is taken for the pages that are touched alone. A system
+/* KEFS_LAZY. kefs_map reads no page, but of layouts 2 and 3 those of the journal, and memory is taken for the pages that are touched
+   alone, and where a commit writes all other pages of a pool home for those that were in it. A system
    call that touches a page that was not read yet fails with EFAULT: kefs_touch reads it before. A handler of SIGBUS
    is installed as that of SIGSEGV is. Where the system has no userfaultfd, and under KEFS_TRACK_SIGNAL,
    the flag changes nothing. */
@@ -164,7 +166,7 @@ enum {
    commit, all of it, until kefs_refresh brings a newer one. KEFS_RDONLY, KEFS_LAZY and trackers change nothing then. The image is
    not kept from others: a process may have it open to write meanwhile, and be killed or open it again. An opening, and a refresh,
    waits for the commit or the opening that is under way, and these wait for readers that are copying, in turns of at most 4 MiB, and
-   4 MiB of the journal, or 8 MiB that commits have changed. For one that makes no progress openings, commits and kefs_recover wait a
+   4 MiB of the journal, or 24 MiB that commits have changed. For one that makes no progress openings, commits and kefs_recover wait a
    second, and then go on and it copies again; from then on they wait for such ones in a tenth of their time at most. Where nobody has the
    image open to write, a copy begins 20 milliseconds after the last change of it, or three seconds where the file system's times
    have no parts of milliseconds, and keeps nobody out. A writer that is none of this library's version 1.1 or later (pagesync, pagerun) is
@@ -172,12 +174,13 @@ enum {
 
 /* Opens the image at `path` and locks it by flock(2): against every other opening but those with KEFS_SNAPSHOT, or with KEFS_RDONLY
    against those without. It waits for the lock, without a limit unless kefs_open_with gives one, but not for a handle that this thread
-   has opened: that is KEFS_BUSY at once. Openings with KEFS_RDONLY that overlap without end keep one to write waiting. It carries out what a stop or the last commit left in the journal, but not with KEFS_RDONLY or
-   KEFS_SNAPSHOT. Of what it reads it lets the system drop its cached copy first, so that it sees what the device holds, after a sync
-   that failed too. *image is NULL where it fails; kefs_errmsg(NULL) tells more.
+   has opened: that is KEFS_BUSY at once. Openings with KEFS_RDONLY that overlap without end keep one to write waiting. It carries
+   out what a stop or the last commit left in the journal, or, of layout 4, writes anew what says where pages are in the pool, and
+   copies none; but not with KEFS_RDONLY or KEFS_SNAPSHOT. Of what it reads it lets the system drop its cached copy first, so that
+   it sees what the device holds, after a sync that failed too. *image is NULL where it fails; kefs_errmsg(NULL) tells more.
    EINVAL: a flag that is none, two trackers, or KEFS_CREATE. ENOMEM. ENOSYS: the system's pages are not of 4,096 bytes.
    EINTR: a signal came while it waited; without a limit, one whose handler is not of SA_RESTART.
-   ENOSPC, EDQUOT: there is no room to carry the journal out, or to read a sparse file on a
+   ENOSPC, EDQUOT: there is no room to carry the journal out, or for the map of a pool, or to read a sparse file on a
    memory file system. ESTALE: with KEFS_SNAPSHOT, the file has no name any more, though `path`, of /proc, leads to it; or `path` leads
    to another file each of a hundred times. EFBIG: with KEFS_SNAPSHOT, the process may have no file as large (ulimit -f). KEFS_BUSY,
    KEFS_NOT_IMAGE, KEFS_BAD_JOURNAL, KEFS_NO_TRACKER, KEFS_DEVICE. Other errno values as of open(2), of userfaultfd(2)
@@ -186,17 +189,21 @@ int kefs_open(kefs_image **image, const char *path, unsigned flags);
 
 /* What an opening may be given besides. Zeros, but for `size`, change nothing. */
 struct kefs_options {
-  size_t size;                  /* sizeof (struct kefs_options), so that a later version may have more fields */
+  size_t size;                  /* sizeof (struct kefs_options), so that a later version may have more fields; that of version 1.0 ends before `pool` */
   uint32_t wait;                /* milliseconds to wait for the lock at most, then KEFS_BUSY; 0: no limit. With KEFS_SNAPSHOT
                                    of each kefs_refresh too. With less than 1,000 a reader that is stopped is KEFS_BUSY */
-  uint32_t permissions;         /* with KEFS_CREATE these three, as of kefs_format: access permissions, */
+  uint32_t permissions;         /* with KEFS_CREATE these four, as of kefs_format: access permissions, */
   const struct kefs_file *files; /* files */
-  size_t count;                 /* and how many they are */
+  size_t count;                 /* how many they are; */
+  uint32_t pool;                /* and how many slots the pool of the image has, rounded up to a multiple of 1,008, 2,064,384 at most; 0:
+                                   4,032. A slot takes 4,104 bytes. A commit after which over a half of them would have a page writes
+                                   all other pages home: twice as many slots as a program has pages that it changes again and again
+                                   keep commits short */
 };
 
 /* kefs_open with options. With KEFS_CREATE, where nothing is at `path`, the image is made first, as kefs_format does
    it; an image that is there has to have these files, and no others, of these lengths.
-   EINVAL: as of kefs_open and of kefs_format, KEFS_CREATE to read or without options, or a `size` that is less
+   EINVAL: as of kefs_open and of kefs_format, KEFS_CREATE to read or without options, a pool of over 2,064,384 pages, or a `size` that is less
    than that of version 1.0. KEFS_OTHER_FILES: the image that is there has other files, lengths, or files that may only be read.
    Other results as of kefs_open and, with KEFS_CREATE, of kefs_format. */
 int kefs_open_with(kefs_image **image, const char *path, unsigned flags, const struct kefs_options *options);
@@ -232,7 +239,8 @@ struct kefs_range { const void *at; size_t length; };
 /* Makes the dirty pages of `count` ranges durable, in all files at once, or all dirty pages where `ranges` is NULL.
    How many they were goes to *taken, where it is not NULL; where there are none, no device call is made. Bytes of a
    range that lie in no mapping count for nothing.
-   KEFS_TOO_MANY: over 1,023 pages; nothing was done. The way on is to commit fewer ranges at a time, or kefs_rollback. With scan and
+   KEFS_TOO_MANY: over 1,023 pages, or of layout 4 more than half of the pool's slots and more than are free, which are all but one
+   at most; nothing was done. The way on is to commit fewer ranges at a time, or kefs_rollback. With scan and
    signal, and of one range or all, pages that are as they are durable are not counted here, though kefs_count_dirty counts them.
    KEFS_READ_ONLY: opened with KEFS_RDONLY or KEFS_SNAPSHOT. EINVAL: `ranges` is NULL and `count` is not 0. ENOMEM: nothing was done.
    ENOSPC, EDQUOT: there is no room on the device, where a file is sparse mostly; nothing was done, the pages are dirty
@@ -259,7 +267,7 @@ enum { KEFS_BEFORE = 0, KEFS_AFTER = 1 };
 int kefs_recover(kefs_image *image, int *stands);
 
 /* How many pages kefs_commit of these ranges would take now: for a program that ends a transaction before it grows too
-   large. Over 1,023 is an answer like any other. Of an image that was opened to read it is 0.
+   large. More than a commit may take is an answer like any other. Of an image that was opened to read it is 0.
    EINVAL: as of kefs_commit. */
 int kefs_count_dirty(kefs_image *image, const struct kefs_range *ranges, size_t count, size_t *pages);
 
@@ -298,10 +306,10 @@ int kefs_refresh(kefs_image *image, int *changed);
 /* Backup */
 
 /* Makes an image at `path`, where nothing may be, as kefs_format does, whose files are as the last commit left them,
-   also where this image was opened to read. It is of layout 3, whatever that of this one. Other threads may store and
-   commit meanwhile: a commit waits for a part of the copy, a MiB mostly, and the copy has all commits that returned before
-   some moment of the call, and no later one. (A copy that is made without this call, beside a program that commits, may be
-   torn.)
+   also where this image was opened to read. It is of layout 4, whatever that of this one, and has as large a pool as an image of
+   layout 4 that it is made of. Other threads may store and commit meanwhile: a commit waits for a part of the copy, a MiB
+   mostly, and the copy has all commits that returned before some moment of the call, and no later one. (A copy that is made
+   without this call, beside a program that commits, may be torn.)
    EEXIST, ENOSPC, EDQUOT, EFBIG, ENOMEM, other errno values: as of kefs_format. KEFS_DEVICE: a read, a write or a sync
    failed, of either file. No failure halts this image. */
 int kefs_backup(kefs_image *image, const char *path, unsigned permissions);
@@ -311,16 +319,16 @@ int kefs_backup(kefs_image *image, const char *path, unsigned permissions);
 struct kefs_stat {
   size_t size;              /* in: sizeof (struct kefs_stat), so that a later version may have more fields */
   uint32_t files;           /* how many files the image has */
-  uint32_t most_pages;      /* of one commit: 1,023 */
+  uint32_t most_pages;      /* that every commit may take: 1,023, or of layout 4 half as many as the pool has slots, 2,016 */
   uint64_t pages;           /* home pages of the image, those of no file included */
-  uint64_t recovered;       /* pages that the opening brought from the journal to their homes */
+  uint64_t recovered;       /* pages that the opening brought from the journal to their homes: of layout 4 none */
   uint64_t commits;         /* since the opening, as are the next three: commits that took a page and returned KEFS_OK */
   uint64_t committed_pages; /* pages that they took */
   uint64_t written_bytes;   /* bytes written to the host file */
   uint64_t syncs;           /* syncs of the host file */
   const char *tracker;      /* "scan", "signal" or "caller"; "none" of an image that was opened to read */
   uint32_t lazy;            /* 1 where pages are read when they are first touched, else 0 */
-  uint32_t layout;          /* 2 or 3, of docs/FORMATS.md */
+  uint32_t layout;          /* 2, 3 or 4, of docs/FORMATS.md */
 };
 
 /* Says facts of the image. EINVAL: `size` is less than that of version 1.0. */

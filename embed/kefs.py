@@ -28,7 +28,7 @@ import weakref
 from typing import NamedTuple
 
 RDONLY, NOWAIT, TRACK_SCAN, TRACK_SIGNAL, TRACK_CALLER, LAZY, SNAPSHOT = 1, 2, 4, 8, 16, 32, 128
-PAGE, MOST_PAGES = 4096, 1023
+PAGE, MOST_PAGES = 4096, 1023  # of one commit of layouts 2 and 3; stat() says how many of any image
 BEFORE, AFTER = 0, 1
 _CREATE = 64
 
@@ -113,7 +113,8 @@ class _File(ctypes.Structure):
 
 
 class _Options(ctypes.Structure):
-    _fields_ = [("size", ctypes.c_size_t), ("wait", ctypes.c_uint32), ("permissions", ctypes.c_uint32), ("files", ctypes.c_void_p), ("count", ctypes.c_size_t)]
+    _fields_ = [("size", ctypes.c_size_t), ("wait", ctypes.c_uint32), ("permissions", ctypes.c_uint32), ("files", ctypes.c_void_p), ("count", ctypes.c_size_t),
+                ("pool", ctypes.c_uint32)]
 
 
 class _Range(ctypes.Structure):
@@ -309,8 +310,8 @@ os.register_at_fork(after_in_child=_leave_parent)
 class Image:
     """An open image. It is closed by close(), or at the end of a `with`. Threads may share it: a call waits for the one before."""
 
-    def __init__(self, path, flags=0, wait=0, create=None, permissions=0o600):
-        handle, options = ctypes.c_void_p(), _Options(size=ctypes.sizeof(_Options), wait=wait, permissions=permissions)
+    def __init__(self, path, flags=0, wait=0, create=None, permissions=0o600, pool=0):
+        handle, options = ctypes.c_void_p(), _Options(size=ctypes.sizeof(_Options), wait=wait, permissions=permissions, pool=pool)
         self._handle, self._mapped, self._lock, self._wait = None, {}, threading.RLock(), wait
         end = time.monotonic() + wait / 1000
         if create is not None:
@@ -470,8 +471,8 @@ def _ranges(views):
     return (array, len(views)) if views else (None, 0)
 
 
-def open(path, flags=0, wait=0, create=None, permissions=0o600):
+def open(path, flags=0, wait=0, create=None, permissions=0o600, pool=0):
     """Opens an image: kefs.RDONLY or kefs.SNAPSHOT, kefs.NOWAIT, kefs.LAZY and a tracker are the flags. Another opening of it is waited for, at most
     `wait` milliseconds where that is not 0; with SNAPSHOT only the commit that is under way, and by each refresh() too. `create` is the files of the
-    image, as of format(), that is made where nothing is at the path. Use it in a `with`."""
-    return Image(path, flags, wait, create, permissions)
+    image, as of format(), that is made where nothing is at the path, and `pool` how many slots its pool has, 4,032 where it is 0. Use it in a `with`."""
+    return Image(path, flags, wait, create, permissions, pool)

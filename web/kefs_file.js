@@ -3,11 +3,12 @@
 "use strict";
 const KefsFile = (() => {
   const PAGE = 4096, SECTOR = 512, MOST_PAGES = 1023; // bytes, and pages of one commit
-  const ROOM = 16384, CALL = 24, UNIT = 65536; // calls of a plan, bytes of a call, and of a page of WebAssembly's memory
+  const ROOM = 16384, CALL = 24, UNIT = 65536, HEAP = 1 << 20; // calls of a plan; bytes of a call, of a page of WebAssembly's memory, and that a call of the module may ask for
   const HOMES = 16408, DIRECTORY = 9; // sectors of layout 3
   const KINDS = { write: 1, sync: 2, lent: 3, copy: 4 };
   const RESULTS = ["ok", "another call's turn", "the file has no layout of a store", "its journal has a map that no commit writes", "no such pages: over 1,023, none, one twice, or one outside of its file",
-    "the file of a page may only be read", "the plan has too many calls"];
+    "the file of a page may only be read", "the plan has too many calls",
+    "there is no memory for what a store of layout 4 keeps there"];
 
   // An image of files of zeros of these lengths, of layout 3.
   function newImage(lengths) {
@@ -45,7 +46,7 @@ const KefsFile = (() => {
   class Image {
     constructor(module, device) {
       this.device = device;
-      this.library = new WebAssembly.Instance(module, {}).exports;
+      this.library = new WebAssembly.Instance(module, { env: this.memory() }).exports;
       this.recover();
     }
 
@@ -56,6 +57,23 @@ const KefsFile = (() => {
       this.view().setUint32(this.handle, 0, true);
       this.planned(this.library.famsync_open(BigInt(this.handle), ...this.lent(), ...this.plan()));
       this.carryOut();
+    }
+
+    // The memory that the module asks for within a call, and gives back before it returns: one block behind the other, in room of which each call begins anew. A block comes back through a
+    // pointer to a pair: whether there is one, and where.
+    memory() {
+      const alloc = (to, length) => {
+        const at = this.heap + this.taken, is = this.taken + Number(length) <= HEAP;
+        this.view().setBigUint64(Number(to), is ? 1n : 0n, true);
+        this.view().setBigUint64(Number(to) + 8, BigInt(at), true);
+        if (is) this.taken += Math.ceil((Number(length) || 1) / 16) * 16;
+        return is ? at : 0;
+      };
+      const realloc = (to, old, kept, length) => {
+        const at = alloc(to, length);
+        if (at !== 0) new Uint8Array(this.library.memory.buffer).copyWithin(at, Number(old), Number(old) + Number(kept));
+      };
+      return { rattle_alloc: alloc, rattle_realloc: realloc, rattle_dealloc: () => {} };
     }
 
     // Places in the module's memory, above what it had: the image, a handle, a count, two plans, and what a commit lends.
@@ -69,7 +87,7 @@ const KefsFile = (() => {
         return found;
       };
       Object.assign(this, { size, image: place(size), handle: place(8), used: place(8), calls: place(ROOM * CALL), rows: place(ROOM * SECTOR), scratchCalls: place(ROOM * CALL), scratchRows: place(ROOM * SECTOR),
-        pages: place(8 * MOST_PAGES), pointers: place(8 * MOST_PAGES), content: place(PAGE * MOST_PAGES), page: place(PAGE) });
+        pages: place(8 * MOST_PAGES), pointers: place(8 * MOST_PAGES), content: place(PAGE * MOST_PAGES), page: place(PAGE), heap: place(HEAP), taken: 0 });
       const short = at - memory.buffer.byteLength;
       if (short > 0) memory.grow(Math.ceil(short / UNIT));
     }
@@ -78,9 +96,12 @@ const KefsFile = (() => {
 
     view() { return new DataView(this.library.memory.buffer); }
 
-    lent() { return [BigInt(this.image), BigInt(this.size / SECTOR), BigInt(this.scratchCalls), BigInt(this.scratchRows)]; }
+    lent() {
+      this.taken = 0;
+      return [this.image, this.size / SECTOR, this.scratchCalls, ROOM, this.scratchRows, ROOM].map(BigInt);
+    }
 
-    plan() { return [BigInt(this.used), BigInt(this.calls), BigInt(this.rows)]; }
+    plan() { return [this.used, this.calls, ROOM, this.rows, ROOM].map(BigInt); }
 
     planned(result) { if (result !== 0) throw new Error(RESULTS[result] || `result ${result}`); }
 

@@ -8,20 +8,22 @@
 
 enum { CHUNK = 256, ROUNDS = 3 }; /* homes that are copied in one turn, and rounds over all that is late */
 
-struct backup { struct kefs_image *image; struct new_file file; unsigned char *late, *chunk; };
+/* The copy has layout 4. It has the homes of one of that layout, and those of an older one behind its directory, by so many later. */
+struct backup { struct kefs_image *image; struct new_file file; struct layout layout; uint32_t shift; unsigned char *late, *chunk; };
 
 void note_homes(struct kefs_image *image) {
   for (size_t i = 0; i < image->taken && image->late != NULL; i++)
-    set_bit(image->late, image->files[image->pages[i].file].first_home + image->pages[i].page);
+    set_bit(image->late, home_of_page(&image->files[image->pages[i].file], image->pages[i].page));
 }
 
-/* Marks the homes that may hold other bytes than zeros as late: those with room in the file, and those of the journal's pages. */
+/* Marks the homes that may hold other bytes than zeros as late: those with room in the file, and those whose pages stand elsewhere. */
 static void find_used(struct kefs_image *image) {
-  off_t before, hole, begin = home_offset(image->layout, 0), end = begin + (off_t)(PAGE * image->stat.pages);
+  off_t before, hole, begin = home_offset(&image->layout, 0), end = begin + (off_t)(PAGE * image->stat.pages);
   int fd = file_of_bytes(image, &before);
   for (off_t data = next_data(fd, before + begin, before + end, &hole); data < before + end; data = next_data(fd, hole, before + end, &hole))
     for (off_t at = data - before - begin; at < hole - before - begin; at += PAGE - at % PAGE) set_bit(image->late, (size_t)at / PAGE);
-  for (uint32_t i = 0; i < journal_pages(image); i++) set_bit(image->late, journal_home(image, i));
+  const struct places *places = image_places(image);
+  for (size_t i = 0; i < places->count; i++) set_bit(image->late, places->list[i].home);
 }
 
 /* The homes from `first` on that are late, and follow each other: how many, at most a chunk. */
@@ -47,10 +49,11 @@ static int is_zero(const unsigned char *bytes) { return bytes[0] == 0 && memcmp(
 /* In the first round the file is all zeros yet. */
 static int write_homes(struct backup *backup, uint64_t first, size_t count, int round) {
   int number = KEFS_OK;
+  off_t at = home_offset(&backup->layout, (uint32_t)first + backup->shift);
   for (size_t i = 0, end; i < count && number == KEFS_OK; i = end) {
     int skipped = round == 0 && is_zero(backup->chunk + i * PAGE);
     for (end = i + 1; end < count && !skipped && !(round == 0 && is_zero(backup->chunk + end * PAGE));) end++;
-    if (!skipped) number = write_all(backup->file.fd, backup->chunk + i * PAGE, (end - i) * PAGE, home_offset(&LAYOUT_3, (uint32_t)(first + i)));
+    if (!skipped) number = write_all(backup->file.fd, backup->chunk + i * PAGE, (end - i) * PAGE, at + (off_t)(PAGE * i));
   }
   return number;
 }
@@ -70,6 +73,14 @@ static int copy_late(struct backup *backup, int round) {
   }
 }
 
+/* Of an image of layout 4 the directory is among its pages. */
+static int write_older_directory(const struct backup *backup) {
+  struct file files[KEFS_FILES];
+  memcpy(files, backup->image->files, sizeof files);
+  for (unsigned f = 0; f < KEFS_FILES; f++) files[f].extents[0].first += backup->shift;
+  return backup->shift == 0 ? KEFS_OK : write_directory(backup->file.fd, &backup->layout, files);
+}
+
 /* The last round is one turn: what it leaves is as after one commit. */
 static int copy_last(struct backup *backup) {
   uint64_t first = 0;
@@ -79,20 +90,25 @@ static int copy_last(struct backup *backup) {
     read_homes(backup, first, count);
     number = write_homes(backup, first, count, ROUNDS);
   }
-  if (number == KEFS_OK) number = write_directory(backup->file.fd, directory_of(backup->image));
+  if (number == KEFS_OK) number = write_older_directory(backup);
   return leave(backup->image, number);
 }
 
-/* A new image, so of layout 3, whatever that of the copied one. */
+static int take_rooms_of(const struct backup *backup, off_t length) {
+  const struct kefs_image *image = backup->image;
+  int is_whole = image->roomless == NULL && !image->read_only;
+  return is_whole ? take_room(backup->file.fd, 0, length) : take_first_room(backup->file.fd, &backup->layout, 0);
+}
+
 static int fill_file(struct backup *backup) {
-  struct kefs_image *image = backup->image;
-  off_t length = home_offset(&LAYOUT_3, 0) + (off_t)(PAGE * image->stat.pages);
-  int result = set_length(backup->file.fd, length);
-  if (result == KEFS_OK) result = take_room(backup->file.fd, 0, image->roomless == NULL && !image->read_only ? length : first_room(0));
+  uint64_t homes = backup->shift + backup->image->stat.pages;
+  off_t length = home_offset(&backup->layout, 0) + (off_t)(PAGE * homes);
+  int result = homes > MOST_HOMES ? EFBIG : set_length(backup->file.fd, length);
+  if (result == KEFS_OK) result = take_rooms_of(backup, length);
   for (int round = 0; round < ROUNDS && result == KEFS_OK; round++) result = copy_late(backup, round);
   if (result == KEFS_OK && fdatasync(backup->file.fd) != 0) result = errno; /* so that the last turn is short */
   if (result == KEFS_OK) result = copy_last(backup);
-  if (result == KEFS_OK) result = finish_image(backup->file.fd);
+  if (result == KEFS_OK) result = finish_image(backup->file.fd, &backup->layout);
   return result == KEFS_OK ? name_file(&backup->file) : result;
 }
 
@@ -106,7 +122,9 @@ static int watch(struct kefs_image *image, unsigned char *late) {
 }
 
 static int back_up(struct kefs_image *image, const char *path, unsigned permissions) {
-  struct backup backup = {image, {path, NULL, -1}, new_memory(bits_bytes(image)), malloc((size_t)CHUNK * PAGE)};
+  int is_older = image->layout.blocks == 0;
+  struct layout layout = is_older ? pool_layout(POOL_BLOCKS, DIRECTORY_PAGES) : image->layout;
+  struct backup backup = {image, {path, NULL, -1}, layout, is_older ? DIRECTORY_PAGES : 0, new_memory(bits_bytes(image)), malloc((size_t)CHUNK * PAGE)};
   int result = backup.late == NULL || backup.chunk == NULL ? ENOMEM : KEFS_OK;
   if (result == KEFS_OK) result = begin_file(&backup.file, path, permissions);
   if (result == KEFS_OK) result = watch(image, backup.late);

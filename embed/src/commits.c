@@ -82,33 +82,42 @@ void let_all_go(struct kefs_image *image, int done) {
   image->taken = 0;
 }
 
+/* Puts a page that is taken into the commit: whether it found place there. */
+static int put_page(struct mapping *mapping, size_t k) {
+  struct kefs_image *image = mapping->image;
+  if (image->taken == 0) image->most = free_places(image);
+  if (image->taken == image->most) return 0;
+  image->pages[image->taken++] = (struct famsync_page){(uint8_t)(mapping - image->mappings), (uint32_t)k};
+  return 1;
+}
+
+static int are_too_many(struct kefs_image *image) { return fail(image, KEFS_TOO_MANY, "over %zu pages are dirty", image->most); }
+
 /* Puts the dirty pages of an area, or a part of one, into the commit. Where one stays dirty, since a range before has taken it or as one too many, the area
    stays so. */
-static int take_area(struct kefs_image *image, struct mapping *mapping, size_t first, size_t end) {
+static int take_area(struct mapping *mapping, size_t first, size_t end) {
   for (size_t k = next_mark(mapping, first, end); k < end; k = next_mark(mapping, k + 1, end)) {
     if (!take_page(mapping, k)) {
       set_area(mapping, k, 1);
       continue;
     }
-    if (image->taken == KEFS_MOST_PAGES) {
+    if (!put_page(mapping, k)) {
       let_go(mapping, k, 0);
-      return fail(image, KEFS_TOO_MANY, "over %d pages are dirty", KEFS_MOST_PAGES);
+      return are_too_many(mapping->image);
     }
-    image->pages[image->taken] = (struct famsync_page){(uint8_t)(mapping - image->mappings), (uint32_t)k};
-    image->page_bytes[image->taken++] = (struct famsync_bytes){mapping->at + k * PAGE};
   }
   return KEFS_OK;
 }
 
 /* Puts the dirty pages of a span into the commit. */
-static int take_span(struct kefs_image *image, const struct span *span) {
+static int take_span(const struct span *span) {
   struct mapping *mapping = span->mapping;
   int result = KEFS_OK;
   for (size_t k = span->first, end; k < span->end && result == KEFS_OK; k = end) {
     end = area_end(k, span->end);
     if (is_clean(mapping, k)) continue;
     if (k % AREA == 0 && end == area_end(k, mapping->pages)) set_area(mapping, k, 0);
-    result = take_area(image, mapping, k, end);
+    result = take_area(mapping, k, end);
   }
   return result;
 }
@@ -119,7 +128,7 @@ static int take(struct kefs_image *image, const struct kefs_range *ranges, size_
   struct span span;
   while (next_span(&it, &span)) {
     size_t before = image->taken;
-    int number = note_dirty(&span), result = number == KEFS_OK ? take_span(image, &span) : fail(image, number, "looking for dirty pages");
+    int number = note_dirty(&span), result = number == KEFS_OK ? take_span(&span) : fail(image, number, "looking for dirty pages");
     if (result != KEFS_OK) return result;
     number = image->taken > before ? seal(&span) : KEFS_OK;
     if (number != KEFS_OK) return fail(image, number, "closing dirty pages");
@@ -145,7 +154,7 @@ static int is_taken(const struct mapping *mapping, size_t k) { return (__atomic_
 
 /* Takes all dirty pages of the span, closes them, and only then compares each: a store from then on is noted. Those that differ are put into the commit, as far as
    they find place there: whether all did. */
-static int take_changed(struct kefs_image *image, const struct span *span) {
+static int take_changed(const struct span *span) {
   struct mapping *mapping = span->mapping;
   size_t next = span->first;
   for (size_t k = next_marked(mapping, next, span->end); k < span->end; k = next_marked(mapping, k + 1, span->end)) take_page(mapping, k);
@@ -156,9 +165,7 @@ static int take_changed(struct kefs_image *image, const struct span *span) {
       let_go(mapping, k, 1);
       continue;
     }
-    if (image->taken == KEFS_MOST_PAGES) return 0;
-    image->pages[image->taken] = (struct famsync_page){(uint8_t)(mapping - image->mappings), (uint32_t)k};
-    image->page_bytes[image->taken++] = (struct famsync_bytes){mapping->at + k * PAGE};
+    if (!put_page(mapping, k)) return 0;
   }
   return 1;
 }
@@ -176,11 +183,16 @@ static int take_all_changed(struct kefs_image *image, const struct kefs_range *r
   struct span span;
   int all = 1;
   let_all_go(image, 0);
-  while (all && next_span(&it, &span)) all = note_dirty(&span) == KEFS_OK && take_changed(image, &span);
+  while (all && next_span(&it, &span)) all = note_dirty(&span) == KEFS_OK && take_changed(&span);
   if (all) return KEFS_OK;
   image->taken = 0;
   for (it = spans_of(image, ranges, count); next_span(&it, &span);) give_back(&span);
-  return fail(image, KEFS_TOO_MANY, "over %d pages are dirty", KEFS_MOST_PAGES);
+  return are_too_many(image);
+}
+
+static int take_as_needed(struct kefs_image *image, const struct kefs_range *ranges, size_t count) {
+  int result = take(image, ranges, count);
+  return result == KEFS_TOO_MANY && may_forget(image, ranges, count) ? take_all_changed(image, ranges, count) : result;
 }
 
 static int result_of(uint32_t answer) {
@@ -188,25 +200,96 @@ static int result_of(uint32_t answer) {
     case FAMSYNC_OK: return KEFS_OK;
     case FAMSYNC_BAD_JOURNAL: return KEFS_BAD_JOURNAL;
     case FAMSYNC_NO_ROOM: return KEFS_TOO_MANY;
+    case FAMSYNC_NO_MEMORY: return ENOMEM;
     default: return KEFS_NOT_IMAGE; /* another program has written over the layout: no other refusal is left */
   }
 }
 
+/* Pages in rising order are planned faster. They are so, but where ranges came in another one. */
+
+static uint32_t order_of(const struct famsync_page *page) { return (uint32_t)page->file << 20 | page->page; }
+
+static struct famsync_page page_of(uint32_t order) { return (struct famsync_page){(uint8_t)(order >> 20), order & 0xfffff}; }
+
+static int are_in_order(const struct kefs_image *image) {
+  for (size_t i = 1; i < image->taken; i++)
+    if (order_of(&image->pages[i - 1]) > order_of(&image->pages[i])) return 0;
+  return 1;
+}
+
+/* The image's places are read anew after the commit, so that their room may serve. */
+static void put_in_order(struct kefs_image *image) {
+  struct places *places = &image->places;
+  for (size_t i = 0; i < image->taken; i++) places->list[i].home = order_of(&image->pages[i]);
+  places->count = image->taken;
+  sort_places(places);
+  for (size_t i = 0; i < image->taken; i++) image->pages[i] = page_of(places->list[i].home);
+  forget_places(image);
+}
+
+static void find_bytes(struct kefs_image *image) {
+  for (size_t i = 0; i < image->taken; i++)
+    image->page_bytes[i] = (struct famsync_bytes){image->mappings[image->pages[i].file].at + (size_t)image->pages[i].page * PAGE};
+}
+
+static int plan_taken(struct kefs_image *image, struct famsync_handle *handle) {
+  struct plan *scratch = &image->scratch, *plan = &image->plan;
+  begin_heap(&image->heap);
+  uint32_t answer = famsync_commit(handle, image->bytes, image->sectors, scratch->calls, scratch->room, scratch->rows, scratch->room, &plan->used,
+                                   plan->calls, plan->room, plan->rows, plan->room, image->pages, image->taken, image->page_bytes, image->taken);
+  end_heap();
+  return answer == FAMSYNC_OK ? KEFS_OK : fail(image, result_of(answer), "no plan for %zu pages (%u)", image->taken, (unsigned)answer);
+}
+
+/* The slots of pages that a plan copies home are given to others by the plan that comes next. */
+static int read_dropped(struct kefs_image *image) {
+  if (!has_dropped(image)) return KEFS_OK;
+  int number = fill_slotted(image);
+  return number == KEFS_OK ? KEFS_OK : fail(image, number == EIO ? KEFS_DEVICE : number, "reading pages that were not touched");
+}
+
+/* The plan's handle becomes the image's with the plan's first call: a plan that is given up before it never was. */
 static int carry_out_taken(struct kefs_image *image) {
-  struct famsync_plan *scratch = image->scratch, *plan = image->plan;
-  uint32_t answer = famsync_commit(&image->handle, image->bytes, image->sectors, scratch->calls, scratch->rows, &plan->used,
-                                   plan->calls, plan->rows, image->pages, image->taken, image->page_bytes, image->taken);
-  if (answer != FAMSYNC_OK) return fail(image, result_of(answer), "no plan for %zu pages (%u)", image->taken, (unsigned)answer);
+  struct famsync_handle handle = image->handle;
+  int result = plan_taken(image, &handle);
+  if (result == KEFS_OK) result = read_dropped(image);
+  if (result == KEFS_OK) result = take_rooms(image);
+  if (result == KEFS_OK) result = begin_change(image);
+  if (result != KEFS_OK) return result;
+  image->handle = handle;
   return carry_out(image);
 }
 
 /* Room is taken before readers are kept out, so that a commit that is refused for want of it leaves all as it was. They are let in again when the last sync is
    over, and not where a call has failed (end_change). */
 static int commit_taken(struct kefs_image *image) {
-  int result = image->taken == 0 ? KEFS_OK : take_rooms(image);
-  if (result == KEFS_OK && image->taken > 0) result = begin_change(image);
-  if (result == KEFS_OK && image->taken > 0) result = carry_out_taken(image);
+  if (!are_in_order(image)) put_in_order(image);
+  find_bytes(image);
+  int result = image->taken == 0 ? KEFS_OK : carry_out_taken(image);
   end_change(image);
+  return result;
+}
+
+/* A commit of more pages than a body of the pool has slots leaves fewer slots than that for the next one. Then a page is committed as it is durable: it is the only
+   one that keeps a slot, since the plan copies all others home. */
+
+static int page_as_durable(struct kefs_image *image, unsigned char *bytes) {
+  for (unsigned f = 0; f < KEFS_FILES; f++) {
+    const struct file *file = &image->files[f];
+    if (!file->present || file->read_only || file->length == 0) continue;
+    copy_durable_page(image, home_of_page(file, 0), bytes);
+    image->pages[0] = (struct famsync_page){(uint8_t)f, 0}, image->page_bytes[0] = (struct famsync_bytes){bytes};
+    return image->taken = 1;
+  }
+  return 0;
+}
+
+/* The page is none that was taken of a mapped file. */
+static int make_room(struct kefs_image *image) {
+  unsigned char bytes[PAGE];
+  int result = page_as_durable(image, bytes) ? carry_out_taken(image) : KEFS_TOO_MANY;
+  end_change(image);
+  image->taken = 0;
   return result;
 }
 
@@ -224,9 +307,13 @@ static int go_on(struct kefs_image *image, int result) {
 
 /* A page of a commit that failed stays taken, until kefs_recover says what became of it. */
 static int commit(struct kefs_image *image, const struct kefs_range *ranges, size_t count, size_t *taken) {
-  int result = take(image, ranges, count);
   ignore_reads(1);
-  if (result == KEFS_TOO_MANY && may_forget(image, ranges, count)) result = take_all_changed(image, ranges, count);
+  int result = take_as_needed(image, ranges, count);
+  if (result == KEFS_TOO_MANY && image->most < most_pages(&image->layout)) {
+    let_all_go(image, 0);
+    result = make_room(image);
+    if (result == KEFS_OK) result = take_as_needed(image, ranges, count);
+  }
   if (result == KEFS_OK) result = commit_taken(image);
   ignore_reads(0);
   size_t pages = image->taken;

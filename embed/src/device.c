@@ -107,43 +107,78 @@ int take_room(int fd, off_t offset, off_t length) {
   return KEFS_OK;
 }
 
-static uint32_t home_of(const struct kefs_image *image, size_t i) {
-  return image->files[image->pages[i].file].first_home + image->pages[i].page;
+/* Room */
+
+enum { ROOM = PAGE / SECTOR }; /* sectors of a bit of `roomless` */
+
+static int lacks_room(const struct kefs_image *image, size_t k) { return (__atomic_load_n(&image->roomless[k / 8], __ATOMIC_SEQ_CST) >> k % 8 & 1) != 0; }
+
+/* A page of layout 2 lies in two such parts. */
+int may_lack_room(const struct kefs_image *image, size_t sector) {
+  return image->roomless != NULL && (lacks_room(image, sector / ROOM) || lacks_room(image, (sector + ROOM - 1) / ROOM));
 }
 
-/* Which of two journals a commit writes to is the plan's affair, and the next one writes to the other. */
-static int take_journals(struct kefs_image *image) {
-  for (int j = 0; j < 2 && image->taken > image->roomy; j++) {
-    off_t map = image->layout->journals[j];
-    int number = map == 0 ? KEFS_OK : take_room(image->fd, SECTOR * map, (off_t)SECTOR * MAP_SECTORS + (off_t)PAGE * (off_t)image->taken);
-    if (number != KEFS_OK) return fail(image, device_result(number), "room for %zu pages in the journal: %s", image->taken, kefs_strerror(number));
-  }
-  if (image->taken > image->roomy) image->roomy = image->taken;
+static int take_parts(struct kefs_image *image, size_t first, size_t end) {
+  size_t stop = ROOM * end < image->sectors ? ROOM * end : image->sectors;
+  int number = take_room(image->fd, (off_t)(SECTOR * ROOM * first), (off_t)(SECTOR * (stop - ROOM * first)));
+  if (number != KEFS_OK) return fail(image, device_result(number), "room for sectors %zu to %zu: %s", ROOM * first, stop - 1, kefs_strerror(number));
+  for (size_t k = first; k < end; k++) drop_mark(&image->roomless[k / 8], (unsigned char)(1 << k % 8));
   return KEFS_OK;
 }
 
-/* A commit is refused before its first call where there is no room: after it the image would have to be recovered. */
-int take_rooms(struct kefs_image *image) {
-  if (image->roomless == NULL) return KEFS_OK;
-  int result = take_journals(image);
-  for (size_t i = 0; i < image->taken && result == KEFS_OK; i++) {
-    uint32_t home = home_of(image, i);
-    if (!may_lack_room(image, home)) continue;
-    int number = take_room(image->fd, home_offset(image->layout, home), PAGE);
-    if (number != KEFS_OK)
-      return fail(image, device_result(number), "room for page %u of file %u: %s", (unsigned)image->pages[i].page, (unsigned)image->pages[i].file,
-                  kefs_strerror(number));
-    has_room_now(image, home);
+int take_sectors(struct kefs_image *image, size_t first, size_t end) {
+  if (end > image->sectors) end = image->sectors;
+  int result = KEFS_OK;
+  size_t last = (end + ROOM - 1) / ROOM;
+  for (size_t k = first / ROOM, stop; k < last && first < end && image->roomless != NULL && result == KEFS_OK; k = stop) {
+    for (stop = k; stop < last && lacks_room(image, stop);) stop++;
+    if (stop > k) result = take_parts(image, k, stop);
+    else stop++;
   }
   return result;
 }
+
+static size_t sectors_of(const struct famsync_call *call) { return call->kind == FAMSYNC_SYNC ? 0 : call->kind == FAMSYNC_WRITE ? 1 : PAGE / SECTOR; }
+
+/* Where the calls of the plan from `i` on that write one behind the other end: the number of the next one. */
+static size_t run_of_calls(const struct plan *plan, size_t i, size_t *end) {
+  *end = plan->calls[i].sector;
+  for (; i < plan->used && plan->calls[i].kind != FAMSYNC_SYNC && plan->calls[i].sector == *end; i++) *end += sectors_of(&plan->calls[i]);
+  return i;
+}
+
+static int take_plan(struct kefs_image *image) {
+  const struct plan *plan = &image->plan;
+  int result = KEFS_OK;
+  for (size_t i = 0, end; i < plan->used && result == KEFS_OK;) {
+    size_t first = i++;
+    if (plan->calls[first].kind == FAMSYNC_SYNC) continue;
+    i = run_of_calls(plan, first, &end);
+    result = take_sectors(image, plan->calls[first].sector, end);
+  }
+  return result;
+}
+
+/* A commit is refused before its first call where there is no room: after it the image would have to be recovered. A journal's pages are written to their homes by
+   the opening that comes next, so these have room by then. */
+int take_rooms(struct kefs_image *image) {
+  int result = KEFS_OK;
+  if (image->roomless == NULL) return KEFS_OK;
+  for (size_t i = 0; i < image->taken && image->layout.blocks == 0 && result == KEFS_OK; i++) {
+    size_t sector = home_sector(&image->layout, home_of_page(&image->files[image->pages[i].file], image->pages[i].page));
+    result = take_sectors(image, sector, sector + PAGE / SECTOR);
+  }
+  return result == KEFS_OK ? take_plan(image) : result;
+}
+
+/* Plans */
 
 static int halt(struct kefs_image *image, size_t call, size_t bytes, int number) {
   famsync_failed(&image->handle);
   image->halted = 1;
   image->failed = call;
   if (bytes == 0) return fail(image, device_result(number), "fdatasync: %s", kefs_strerror(number));
-  unsigned long long sector = image->plan->calls[call].sector;
+  unsigned long long sector = image->plan.calls[call].sector;
   return fail(image, device_result(number), "pwrite of %zu bytes at sector %llu: %s", bytes, sector, kefs_strerror(number));
 }
 
@@ -153,8 +188,8 @@ enum { MOST_PARTS = 256 };
 /* Where the bytes of a call lie. A page of a mapped file is written from there, once, to the journal; its home is written from the journal, so
    that both are the same whatever is stored to the page meanwhile. */
 static struct iovec bytes_of(const struct kefs_image *image, size_t k) {
-  const struct famsync_call *call = &image->plan->calls[k];
-  const void *at = call->kind == FAMSYNC_WRITE  ? image->plan->rows[k]
+  const struct famsync_call *call = &image->plan.calls[k];
+  const void *at = call->kind == FAMSYNC_WRITE  ? image->plan.rows[k]
                    : call->kind == FAMSYNC_LENT ? image->page_bytes[call->from].at
                                                 : image->bytes + SECTOR * call->from;
   return (struct iovec){(void *)(uintptr_t)at, call->kind == FAMSYNC_WRITE ? SECTOR : PAGE};
@@ -162,7 +197,7 @@ static struct iovec bytes_of(const struct kefs_image *image, size_t k) {
 
 /* The writes of neighbouring sectors from call `first` on, and where their bytes lie, neighbouring bytes as one part. */
 static size_t gather(const struct kefs_image *image, size_t first, struct iovec *parts, int *count) {
-  const struct famsync_plan *plan = image->plan;
+  const struct plan *plan = &image->plan;
   uint64_t sector = plan->calls[first].sector;
   size_t i = first;
   for (*count = 0; i < plan->used && plan->calls[i].kind != FAMSYNC_SYNC && plan->calls[i].sector == sector; i++) {
@@ -183,11 +218,11 @@ static size_t length_of(const struct iovec *parts, int count) {
 
 static int make_call(struct kefs_image *image, size_t call, struct iovec *parts, int count, size_t bytes) {
   if (bytes == 0) return sync_data(image->fd);
-  return write_parts(image->fd, parts, count, (off_t)(SECTOR * image->plan->calls[call].sector));
+  return write_parts(image->fd, parts, count, (off_t)(SECTOR * image->plan.calls[call].sector));
 }
 
 int carry_out(struct kefs_image *image) {
-  const struct famsync_plan *plan = image->plan;
+  const struct plan *plan = &image->plan;
   struct iovec parts[MOST_PARTS];
   forget_places(image);
   for (size_t i = 0; i < plan->used;) {

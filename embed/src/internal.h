@@ -13,11 +13,30 @@
 
 enum { PAGE = KEFS_PAGE, SECTOR = 512 };
 
-/* A page of the journal: its home and its place there. */
-struct place { uint32_t home, place; };
+/* A home page that stands elsewhere, in a journal or in a slot of a pool: the first of the eight sectors that it has there. */
+struct place { uint32_t home, sector; };
+/* Such pages, by their homes where they are sorted, and how many places of journal or pool they take: there a home may have two. */
+struct places {
+  struct place *list, *spare; /* both with room for all places that an image has */
+  size_t room, count, taken;
+  int is_listed, is_sorted;
+};
 
 /* What a failed commit has left: nothing has failed; it is not known whether the files are before or after; or which of them stands. */
 enum outcome { NO_FAILURE, IN_DOUBT, IS_BEFORE, IS_AFTER };
+
+enum { KIND_SECTOR = 1, MAP_SECTORS = 8, MOST_HOMES = 1 << 30, JOURNAL_PAGES = 1023 };
+
+/* Where an image has its parts, by their first sectors. Behind a journal's map is its body; a pool has two maps, each of some blocks of 8 sectors and with a body
+   behind it. `number` is 0 where nothing is known yet. */
+struct layout {
+  uint32_t number;
+  const char *mark; /* eight bytes */
+  uint32_t directory, gate;
+  uint32_t maps[2]; /* the one that a gate of other bytes names, or 0: none; and the one that an open gate names */
+  uint32_t homes;
+  uint32_t blocks, directory_pages; /* of a pool, else 0: the blocks of a map; and the first homes, which are the directory then */
+};
 
 /* How the dirty pages of an image are found (kefs.h says what each tracker does). */
 enum tracker { TRACKER_NONE, TRACKER_SCAN, TRACKER_SIGNAL, TRACKER_CALLER };
@@ -26,8 +45,11 @@ enum tracker { TRACKER_NONE, TRACKER_SCAN, TRACKER_SIGNAL, TRACKER_CALLER };
    again, so that the page stays dirty after the commit. */
 enum { DIRTY = 1, TAKEN = 2, AREA = 512 };
 
-/* An entry of the image's directory. */
-struct file { int present, read_only; uint32_t first_home, length; };
+/* Homes one after the other. */
+struct extent { uint32_t first, count; };
+/* An entry of the image's directory. The homes of its extents are those of its pages, in their order. */
+enum { EXTENTS = 30 };
+struct file { int present, read_only; uint32_t length, extent_count; struct extent extents[EXTENTS]; };
 
 /* A mapped file. */
 struct mapping {
@@ -36,6 +58,8 @@ struct mapping {
   size_t pages;
   unsigned char *marks; /* one a page, changed by atomic operations alone; */
   unsigned char *areas; /* and one of each AREA pages: 0 where the mark of none of them is DIRTY */
+  uint32_t *slots; /* of a pool's page that is read when it is touched: the first sector of the slot that it had when the file was mapped, or 0; NULL: no page has one */
+  int has_unread;  /* some of these may not be read yet */
   struct file file;
   struct region *region;
 };
@@ -52,6 +76,12 @@ struct turns {
   int is_new;  /* the next state is not one commit after `state` */
   off_t state; /* the byte that says so, or 0 */
 };
+
+/* Memory that the calls of libfamsync.a cut their blocks from (heap.c): `used` bytes are, the last block from `last` on. */
+struct heap { unsigned char *at; size_t length, used, last; };
+
+/* Room that is lent to them for a plan: for `room` calls, of which the first `used` are to be made, and for as many rows. */
+struct plan { size_t used, room; struct famsync_call *calls; unsigned char (*rows)[SECTOR]; };
 
 /* Who has an image open, in the list of all handles of this process that keep others out. */
 struct owner { dev_t device; ino_t number; uint64_t thread; struct kefs_image *next; };
@@ -72,19 +102,17 @@ struct kefs_image {
   int faults, pagemap; /* the userfaultfd and /proc/self/pagemap, or -1 */
   const unsigned char *bytes; /* the host file, mapped shared and never written here; of a snapshot, the copy */
   size_t sectors;
-  const struct layout *layout;
-  unsigned char *roomless; /* a bit for each home that may have no room on the device yet, or NULL: each has, and the journals */
-  size_t roomy;            /* so many pages of a journal have room where `roomless` is there */
+  struct layout layout;
+  unsigned char *roomless; /* a bit for each eight sectors that may have no room on the device yet, or NULL: all have */
   struct famsync_handle handle;
-  struct famsync_plan *scratch, *plan;
+  struct plan scratch, plan;
+  struct heap heap;
   struct file files[KEFS_FILES];
   struct mapping mappings[KEFS_FILES];
-  struct famsync_page pages[KEFS_MOST_PAGES]; /* what a commit takes, `taken` of them, and where their bytes lie */
-  struct famsync_bytes page_bytes[KEFS_MOST_PAGES];
-  size_t taken;
-  struct place places[KEFS_MOST_PAGES]; /* the journal's pages by their homes, `placed` of them, or -1: to be read anew */
-  int placed;
-  const unsigned char *body; /* where these pages lie */
+  struct famsync_page *pages; /* what a commit takes, `taken` of them and `most` at most, and where their bytes lie */
+  struct famsync_bytes *page_bytes;
+  size_t taken, most;
+  struct places places; /* what the journal or the pool has now; where it is not listed it is to be read anew */
   pthread_mutex_t backups; /* one backup at a time */
   unsigned char *late;     /* a bit for each home that a backup has to copy yet, or NULL */
   struct kefs_stat stat;
@@ -109,6 +137,12 @@ void remove_region(struct mapping *mapping);
 /* The mapped file of this process that has the byte at this address, or NULL. Signal handlers may call it. */
 struct mapping *mapping_at(const void *address);
 
+/* heap.c */
+
+/* From here on this thread's calls of libfamsync.a take memory from this, all of which is free; or none any more. */
+void begin_heap(struct heap *heap);
+void end_heap(void);
+
 /* results.c */
 
 enum { MESSAGE = 320 }; /* bytes of kefs_errmsg */
@@ -124,20 +158,6 @@ int device_result(int number);
 
 /* layout.c: what docs/FORMATS.md says of an image. */
 
-enum { KIND_SECTOR = 1, MAP_SECTORS = 8, MOST_HOMES = 1 << 30 };
-
-/* Where an image has its parts, by their first sectors. A journal is a map and, behind it, a body. */
-struct layout {
-  uint32_t number;
-  const char *mark; /* eight bytes */
-  uint32_t directory, gate;
-  uint32_t journals[2]; /* the one that a gate of other bytes names, or 0: none; and the one that an open gate names */
-  uint32_t homes;
-};
-extern const struct layout LAYOUT_2, LAYOUT_3; /* new images are of layout 3 */
-
-static const uint32_t PRESENT_BIT = 1u << 31, READ_ONLY_BIT = 1u << 30, HOME_BITS = (1u << 30) - 1;
-
 static inline const unsigned char *sector_at(const struct kefs_image *image, size_t sector) { return image->bytes + SECTOR * sector; }
 
 static inline uint32_t number_at(const unsigned char *at) {
@@ -147,50 +167,87 @@ static inline uint32_t number_at(const unsigned char *at) {
 /* Of a file of so many bytes. */
 static inline uint64_t pages_of(uint32_t length) { return ((uint64_t)length + PAGE - 1) / PAGE; }
 
-/* An entry of the directory, of eight bytes. */
-struct file read_entry(const unsigned char *entry);
+static inline size_t home_sector(const struct layout *layout, uint32_t home) { return layout->homes + (size_t)PAGE / SECTOR * home; }
+static inline off_t home_offset(const struct layout *layout, uint32_t home) { return (off_t)(SECTOR * home_sector(layout, home)); }
+
 /* The layout that an image has by its kind, whether or not its mark is that of it. */
-const struct layout *layout_of(const struct kefs_image *image);
-/* How many home pages the host file has. It is an image. */
+struct layout layout_of(const struct kefs_image *image);
+/* Layout 4 with a pool of so many blocks, and with so many pages of directory. */
+struct layout pool_layout(uint32_t blocks, uint32_t directory_pages);
+int is_same_layout(const struct layout *one, const struct layout *other);
+/* How many sectors a host file of this layout has at least. */
+static inline size_t least_sectors(const struct layout *layout) { return home_sector(layout, layout->directory_pages); }
+/* How many places there are for pages outside of their homes, in one journal or in the pool; and how many pages every commit may take. */
+size_t places_of(const struct layout *layout);
+size_t most_pages(const struct layout *layout);
+/* How many home pages the host file has. */
 uint64_t home_pages(const struct kefs_image *image);
+/* Entry `f` of the directory: KEFS_OK, or KEFS_NOT_IMAGE where it is none, and the reason. Of layout 4 it may be over the last that a file may have. */
+int read_entry(struct kefs_image *image, unsigned f, struct file *to, const char **why);
+/* How many entries the directory has. */
+unsigned entries_of(const struct layout *layout);
 void read_directory(struct kefs_image *image);
+/* The home of page `k` of a file, and how many of its pages from that one on have their homes one after the other; none where it has no more homes. */
+size_t homes_from(const struct file *file, size_t k, uint32_t *home);
+uint32_t home_of_page(const struct file *file, size_t k);
+/* The page of a file of so many pages that has this home, or `pages`. */
+size_t page_of_home(const struct file *file, size_t pages, uint32_t home);
 /* Whether a sector that is the journal's gate has it open. */
 int is_open_gate(const unsigned char *sector);
+int has_open_gate(const struct kefs_image *image);
 /* Whether the image's gate says what this row of a plan, which was to be written there, says. */
 int gate_says(const struct kefs_image *image, const unsigned char *row);
-/* The map of the journal that the gate names, or NULL: it names none. */
-const unsigned char *journal_map(const struct kefs_image *image);
-/* How many pages that journal holds: 0 where there is none. */
-uint32_t journal_pages(const struct kefs_image *image);
-/* The home page of page `i` of it. */
+/* The first sector of the map that the gate names, or 0: it names none. */
+uint32_t named_map(const struct kefs_image *image);
+/* How many pages the journal has by its map, or blocks of a pool's map count: 0 where there is none. */
+uint32_t count_of_map(const struct kefs_image *image);
+/* The home of page `i` of the journal: not of a pool. */
 uint32_t journal_home(const struct kefs_image *image, uint32_t i);
-/* Whether a home may have no room on the device: it is read by calls then (open.c says why). Signal handlers may call it. */
-int may_lack_room(const struct kefs_image *image, uint32_t home);
-void has_room_now(struct kefs_image *image, uint32_t home);
 /* Copies the durable bytes of a home page. */
 void copy_durable_page(struct kefs_image *image, uint32_t home, unsigned char *to);
-/* Has the places of the journal's pages read anew, after calls of a plan. */
-void forget_places(struct kefs_image *image);
-off_t home_offset(const struct layout *layout, uint32_t home);
 /* Page `k` of a mapped file as it is durable, with zeros past the file's end. */
 void copy_durable(const struct mapping *mapping, size_t k, unsigned char *to);
-/* What a new image has beside its homes, its journals having no page: its directory; and what comes last: a sync of all that was written, kind
-   and mark, each with a sync of its own. Each returns KEFS_OK or an errno value. */
-int write_directory(int fd, const unsigned char *directory);
-int finish_image(int fd);
-/* How many bytes at the beginning of a new image take room from the first: up to its homes, or where its journals take theirs as commits need it
-   up to the map that its gate names. */
-off_t first_room(int has_journals);
 /* Whether sector 0, which has to be there, is these eight bytes again and again. */
 int has_mark(const struct kefs_image *image, const char *mark);
-/* The sector that is the image's directory. */
-const unsigned char *directory_of(const struct kefs_image *image);
+
+/* places.c: where pages stand that are not in their homes. */
+
+/* Room for the places of an image of this layout: KEFS_OK or ENOMEM. */
+int new_places(const struct layout *layout, struct places *places);
+void drop_places(struct places *places);
+/* Lists the places of a map, `map` being its bytes and `first` its first sector, in a store of so many homes. */
+void list_places(const struct layout *layout, uint64_t homes, const unsigned char *map, uint32_t first, struct places *places);
+/* Puts places into the order of their homes, each of these once: those of one home stay in their order, and the first of them counts. */
+void sort_places(struct places *places);
+/* Of sorted places the number of the first whose home is `home` or a later one, or how many they are. */
+size_t first_place(const struct places *places, uint32_t home);
+/* The image's own, as its gate and maps are now. */
+const struct places *image_places(struct kefs_image *image);
+/* How many pages the next commit may take. */
+size_t free_places(struct kefs_image *image);
+/* The first sector of what stands for a home. */
+size_t standing_sector(struct kefs_image *image, uint32_t home);
+/* Has the places read anew, after calls of a plan. */
+void forget_places(struct kefs_image *image);
+
+/* format.c: new images. They are of layout 4. */
+
+/* A new image's layout, and whether its pool takes room from the first or as commits need it. */
+enum { DIRECTORY_PAGES = 4, POOL_BLOCKS = 4 };
+/* Where a new image takes room from the first: up to its homes and directory, or where its pool takes its own later up to the map that its gate names. */
+int take_first_room(int fd, const struct layout *layout, int has_pool);
+/* Writes the directory of these files, one extent each in the order of their numbers, where the layout has it. KEFS_OK or an errno value. */
+int write_directory(int fd, const struct layout *layout, const struct file *files);
+/* What comes last: a sync of all that was written, kind and mark, each with a sync of its own. KEFS_OK or an errno value. */
+int finish_image(int fd, const struct layout *layout);
+/* kefs_format with a pool of so many pages, 0 for the usual. */
+int format_with_pool(const char *path, unsigned permissions, const struct kefs_file *files, size_t count, uint32_t pool);
 
 /* findings.c */
 
 /* What is wrong with an image: KEFS_OK, or the result that an opening gives, and the reason in words. */
 struct finding { int result; char words[160]; };
-struct finding check_image(const struct kefs_image *image);
+struct finding check_image(struct kefs_image *image);
 
 /* device.c */
 
@@ -209,7 +266,11 @@ int sync_data(int fd);
 off_t next_data(int fd, off_t at, off_t end, off_t *hole);
 /* Takes room on the device for these bytes of a file: KEFS_OK, also where the file system can't do so, or an errno value. */
 int take_room(int fd, off_t offset, off_t length);
-/* Takes room in the journals for the pages that are taken, and for their homes, before any call of a plan: KEFS_OK, or the image's result. */
+/* Whether some of the eight sectors from this one on may have no room on the device: they are read by calls then (open.c says why). Signal handlers may call it. */
+int may_lack_room(const struct kefs_image *image, size_t sector);
+/* Takes room for these sectors, as far as the image has them and they may have none: KEFS_OK, or the image's result. */
+int take_sectors(struct kefs_image *image, size_t first, size_t end);
+/* Takes room for what the plan writes, before any call of it, and in layouts 2 and 3 for the homes of the pages that are taken: KEFS_OK, or the image's result. */
 int take_rooms(struct kefs_image *image);
 /* Makes the calls of the image's plan: KEFS_OK, or a result; then the image is halted. */
 int carry_out(struct kefs_image *image);
@@ -237,9 +298,15 @@ int holder_of(int fd);
 int settle(struct kefs_image *image);
 /* The layout that the host file has by its kind, which is read by a call: KEFS_OK or the image's result. */
 int read_kind(struct kefs_image *image);
+/* Puts a copy of what an opening reads of an image in the place of its mapping, for a reader: KEFS_OK or the image's result. */
+int copy_head(struct kefs_image *image);
+/* Room for plans of this layout, and for what its commits take, which takes none before it is touched: KEFS_OK or ENOMEM. */
+int make_rooms(struct kefs_image *image);
 /* Carries out the journal of a host file that is settled: KEFS_OK or a result. A reader makes no call of the plan: it reads through the
    journal, and commits nothing. */
 int recover(struct kefs_image *image);
+/* Lets go the room that plans had. */
+void drop_rooms(struct kefs_image *image);
 /* Settles and recovers a halted image, lets the pages of the commit that failed go, and readers in: KEFS_OK, or the image's result. */
 int recover_in_place(struct kefs_image *image);
 
@@ -265,6 +332,8 @@ int lock_to_read(struct kefs_image *image, long limit);
 /* Waits for readers' turns, and keeps others from them: KEFS_OK, or the image's result, when nothing was done. It does nothing where a change was
    begun. */
 int begin_change(struct kefs_image *image);
+/* Whether the image's plan copies pages from slots to homes. */
+int has_dropped(const struct kefs_image *image);
 /* Lets readers in, but to a halted image: the file is as after a commit, and synced. */
 void end_change(struct kefs_image *image);
 /* In a change: waits until no reader is reading, a second at most. */
@@ -300,6 +369,8 @@ int forget_stores(const struct span *span);
 int open_pages(const struct span *span);
 /* Reads those of the pages that were not read yet: KEFS_OK or an errno value. */
 int fill_missing(const struct span *span);
+/* Reads those that had slots of a pool, before these may be given to others: KEFS_OK or an errno value. */
+int fill_slotted(struct kefs_image *image);
 
 /* commits.c */
 
@@ -343,8 +414,9 @@ static inline void mark_dirty(struct mapping *mapping, size_t k) {
 static inline size_t areas_of(const struct mapping *mapping) { return mapping->pages / AREA + 1; }
 
 static inline size_t mapped_bytes(const struct kefs_image *image) { return SECTOR * image->sectors + 1; }
-/* Of a bit for each home. */
+/* Of a bit for each home, and for each eight sectors. */
 static inline size_t bits_bytes(const struct kefs_image *image) { return (size_t)image->stat.pages / 8 + 1; }
+static inline size_t room_bytes(const struct kefs_image *image) { return image->sectors / 64 + 1; }
 
 static inline int bit_of(const unsigned char *bits, size_t k) { return bits[k / 8] >> k % 8 & 1; }
 static inline void set_bit(unsigned char *bits, size_t k) { bits[k / 8] |= (unsigned char)(1 << k % 8); }

@@ -46,6 +46,7 @@ void drop_memory(const void *at, size_t length) {
 static void drop_marks(struct mapping *mapping) {
   drop_memory(mapping->marks, mapping->pages);
   drop_memory(mapping->areas, areas_of(mapping));
+  drop_memory(mapping->slots, mapping->pages * sizeof *mapping->slots);
 }
 
 /* A handler of signals finds the region by its addresses, which another mapping may have once the memory is gone. */
@@ -76,9 +77,8 @@ static int close_image(struct kefs_image *image) {
   end_tracking(image);
   end_snapshot(image);
   drop_memory(image->bytes, mapped_bytes(image));
-  drop_memory(image->scratch, sizeof *image->scratch);
-  drop_memory(image->plan, sizeof *image->plan);
-  drop_memory(image->roomless, bits_bytes(image));
+  drop_rooms(image);
+  drop_memory(image->roomless, room_bytes(image));
   if (image->fd >= 0 && !forked) end_turns(image), flock(image->fd, LOCK_UN); /* a child that still has the descriptor would hold the locks */
   if (image->fd >= 0) close(image->fd);
   if (!forked) pthread_mutex_destroy(&image->lock), pthread_mutex_destroy(&image->backups);
@@ -180,9 +180,9 @@ int kefs_stat(kefs_image *image, struct kefs_stat *to) {
   size_t size = to->size;
   *to = image->stat;
   to->size = size;
-  to->most_pages = KEFS_MOST_PAGES;
+  to->most_pages = (uint32_t)most_pages(&image->layout);
   to->tracker = names[image->tracker];
   to->lazy = (uint32_t)image->lazy;
-  to->layout = image->layout->number;
+  to->layout = image->layout.number;
   return leave(image, KEFS_OK);
 }

@@ -15,12 +15,15 @@
 /* What an opening is given. */
 struct opening { const char *path; unsigned flags; struct kefs_options options; };
 
+/* What the options of versions 1.0 and 1.1 had. */
+enum { OLD_OPTIONS = offsetof(struct kefs_options, pool) };
+
 static int check_opening(kefs_image **to, const char *path, unsigned flags, const struct kefs_options *options) {
   if (to != NULL) *to = NULL;
   if (to == NULL || path == NULL) return fail(NULL, KEFS_BAD_ARGUMENT, to == NULL ? "no place for the handle" : "no path");
   unsigned trackers = flags & (KEFS_TRACK_SCAN | KEFS_TRACK_SIGNAL | KEFS_TRACK_CALLER), all = 2 * KEFS_SNAPSHOT - 1;
   if ((flags & ~all) != 0 || (trackers & (trackers - 1)) != 0) return fail(NULL, EINVAL, "flags %#x", flags);
-  if (options != NULL && options->size < sizeof *options) return fail(NULL, EINVAL, "size %zu of the options", options->size);
+  if (options != NULL && options->size < OLD_OPTIONS) return fail(NULL, EINVAL, "size %zu of the options", options->size);
   if ((flags & KEFS_CREATE) == 0) return KEFS_OK;
   if (options == NULL || (flags & (KEFS_RDONLY | KEFS_SNAPSHOT)) != 0) return fail(NULL, EINVAL, "KEFS_CREATE without options, or to read");
   return options->files == NULL && options->count > 0 ? fail(NULL, KEFS_BAD_ARGUMENT, "no files") : KEFS_OK;
@@ -91,7 +94,7 @@ static int open_or_make(struct kefs_image *image, const struct opening *opening)
     int result = open_host_file(image, opening->path);
     if (result == KEFS_NOT_IMAGE) return fail(image, result, "%s: it is no regular file", opening->path);
     if (result != ENOENT || (opening->flags & KEFS_CREATE) == 0) return result == KEFS_OK ? KEFS_OK : fail(image, result, "opening %s", opening->path);
-    result = kefs_format(opening->path, options->permissions, options->files, options->count);
+    result = format_with_pool(opening->path, options->permissions, options->files, options->count, options->pool);
     if (result == EEXIST && access(opening->path, F_OK) != 0) return fail(image, errno, "opening %s", opening->path); /* a link to nothing */
     if (result != KEFS_OK && result != EEXIST) return fail(image, result, "%s", kefs_errmsg(NULL));
   }
@@ -155,7 +158,8 @@ static int map_host_file(struct kefs_image *image) {
 }
 
 /* Sparse host files. One that takes less room on the device than its length may have pages without any. On a memory file system such a page takes room when it
-   is touched in a mapping, and where there is none the process gets a SIGBUS. So of these files homes are read by calls, and all before the homes is made sure of. */
+   is touched in a mapping, and where there is none the process gets a SIGBUS. So of these files pages are read by calls, and all that the proved part reads is made
+   sure of: a writer takes room for it, and a reader puts a copy in its place. */
 
 static int is_sparse(const struct kefs_image *image) {
   struct stat there;
@@ -163,10 +167,9 @@ static int is_sparse(const struct kefs_image *image) {
 }
 
 int read_kind(struct kefs_image *image) {
-  unsigned char first[SECTOR * (KIND_SECTOR + 1)];
+  unsigned char first[SECTOR * (KIND_SECTOR + 1)] = {0};
   const unsigned char *bytes = image->bytes;
-  if (image->sectors <= KIND_SECTOR) return image->layout = &LAYOUT_2, KEFS_OK;
-  int number = read_all(image->fd, first, sizeof first, 0);
+  int number = image->sectors <= KIND_SECTOR ? KEFS_OK : read_all(image->fd, first, sizeof first, 0);
   if (number != KEFS_OK) return fail(image, KEFS_DEVICE, "pread of %zu bytes at sector 0: %s", sizeof first, kefs_strerror(number));
   image->bytes = first;
   image->layout = layout_of(image);
@@ -174,68 +177,140 @@ int read_kind(struct kefs_image *image) {
   return KEFS_OK;
 }
 
-/* Puts a copy of all before the homes in the place of the mapping, for a reader: no other program writes it. */
-static int copy_head(struct kefs_image *image) {
-  size_t mapped = (mapped_bytes(image) + PAGE - 1) / PAGE * PAGE, head = ((size_t)home_offset(image->layout, 0) + PAGE - 1) / PAGE * PAGE;
-  if (head > mapped) head = mapped;
-  void *at = mmap((void *)(uintptr_t)image->bytes, head, PROT_READ | PROT_WRITE, MAP_PRIVATE | MAP_ANONYMOUS | MAP_NORESERVE | MAP_FIXED, -1, 0);
-  if (at == MAP_FAILED) return fail(image, ENOMEM, "memory for the journals");
-  size_t end = head < SECTOR * image->sectors ? head : SECTOR * image->sectors;
-  int number = read_data(image->fd, at, end, 0);
-  return number == KEFS_OK ? KEFS_OK : fail(image, KEFS_DEVICE, "pread of the journals: %s", kefs_strerror(number));
-}
+/* Does something with these sectors of an image. */
+typedef int part(struct kefs_image *image, size_t first, size_t end);
 
-/* Takes room for these sectors, as far as the image has them. */
-static int take_sectors(struct kefs_image *image, size_t first, size_t end) {
+/* Puts a copy in the place of the mapping: no other program writes it. */
+static int copy_part(struct kefs_image *image, size_t first, size_t end) {
   if (end > image->sectors) end = image->sectors;
-  int number = first < end ? take_room(image->fd, (off_t)(SECTOR * first), (off_t)(SECTOR * (end - first))) : KEFS_OK;
-  return number == KEFS_OK ? KEFS_OK : fail(image, device_result(number), "room for sectors %zu to %zu: %s", first, end - 1, kefs_strerror(number));
+  size_t from = SECTOR * first / PAGE * PAGE, to = (SECTOR * end + PAGE - 1) / PAGE * PAGE;
+  if (first >= end) return KEFS_OK;
+  void *at = mmap((void *)(uintptr_t)(image->bytes + from), to - from, PROT_READ | PROT_WRITE, MAP_PRIVATE | MAP_ANONYMOUS | MAP_NORESERVE | MAP_FIXED, -1, 0);
+  if (at == MAP_FAILED) return fail(image, ENOMEM, "memory for sectors %zu to %zu", first, end - 1);
+  size_t length = to > SECTOR * image->sectors ? SECTOR * image->sectors - from : to - from;
+  int number = read_data(image->fd, at, length, (off_t)from);
+  return number == KEFS_OK ? KEFS_OK : fail(image, KEFS_DEVICE, "pread of %zu bytes at sector %zu: %s", length, from / SECTOR, kefs_strerror(number));
 }
 
-/* Takes room for all that an opening to write reads: up to the first map, the map that the gate names and the pages that it has. */
-static int take_head(struct kefs_image *image) {
-  const struct layout *layout = image->layout;
-  int result = take_sectors(image, 0, layout->gate + 1);
-  const unsigned char *map = result == KEFS_OK && image->sectors > layout->gate ? journal_map(image) : NULL;
-  if (map == NULL) return result;
-  size_t first = (size_t)(map - image->bytes) / SECTOR, body = first + MAP_SECTORS;
-  result = take_sectors(image, first, body);
-  size_t pages = result == KEFS_OK && image->sectors >= body ? journal_pages(image) : 0;
-  return result == KEFS_OK ? take_sectors(image, body, body + PAGE / SECTOR * (pages < KEFS_MOST_PAGES ? pages : KEFS_MOST_PAGES)) : result;
+/* All that an opening reads of a journal: the map that the gate names, and the pages that it has. */
+static int take_journal(struct kefs_image *image, part *take) {
+  size_t map = named_map(image), body = map + MAP_SECTORS;
+  if (map == 0) return KEFS_OK;
+  int result = take(image, map, body);
+  size_t pages = result == KEFS_OK && image->sectors >= body ? count_of_map(image) : 0;
+  return result == KEFS_OK ? take(image, body, body + PAGE / SECTOR * (pages < JOURNAL_PAGES ? pages : JOURNAL_PAGES)) : result;
+}
+
+/* And of a pool: the blocks of the map that count, and what stands for the directory. */
+static int take_pool(struct kefs_image *image, part *take) {
+  const struct layout *layout = &image->layout;
+  size_t map = named_map(image), end = map + PAGE / SECTOR * layout->blocks;
+  if (image->sectors < least_sectors(layout)) return KEFS_OK;
+  int result = take(image, end - PAGE / SECTOR, end);
+  if (result == KEFS_OK) result = take(image, end - PAGE / SECTOR * count_of_map(image), end);
+  for (uint32_t home = 0; home < layout->directory_pages && result == KEFS_OK; home++) {
+    size_t sector = standing_sector(image, home);
+    result = take(image, sector, sector + PAGE / SECTOR);
+  }
+  return result;
+}
+
+static int take_head(struct kefs_image *image, part *take) {
+  const struct layout *layout = &image->layout;
+  int result = take(image, 0, layout->gate + 1);
+  if (result != KEFS_OK || image->sectors <= layout->gate) return result;
+  return layout->blocks == 0 ? take_journal(image, take) : take_pool(image, take);
+}
+
+int copy_head(struct kefs_image *image) { return take_head(image, copy_part); }
+
+/* The slots that a pool's map names, whose bytes a plan copies. */
+static int take_slots(struct kefs_image *image) {
+  const struct places *places = image_places(image);
+  int result = KEFS_OK;
+  for (size_t i = 0; i < places->count && result == KEFS_OK;) {
+    size_t first = places->list[i].sector, end = first;
+    for (; i < places->count && places->list[i].sector == end; i++) end += PAGE / SECTOR;
+    result = take_sectors(image, first, end);
+  }
+  return result;
 }
 
 static int secure_head(struct kefs_image *image) {
   if (!is_sparse(image)) return image->layout = layout_of(image), KEFS_OK;
-  int result = read_kind(image);
-  if (result != KEFS_OK) return result;
-  return image->read_only ? copy_head(image) : take_head(image);
+  image->roomless = new_memory(room_bytes(image));
+  if (image->roomless == NULL) return fail(image, ENOMEM, "which pages have no room");
+  memset(image->roomless, 0xff, room_bytes(image));
+  return read_kind(image);
 }
 
-/* The homes that may have no room. */
-static int find_room(struct kefs_image *image) {
-  if (!is_sparse(image)) return KEFS_OK;
-  image->roomless = new_memory(bits_bytes(image));
-  if (image->roomless == NULL) return fail(image, ENOMEM, "the homes without room");
-  memset(image->roomless, 0xff, bits_bytes(image));
-  return KEFS_OK;
+static int read_head(struct kefs_image *image) {
+  if (image->roomless == NULL) return KEFS_OK;
+  int result = take_head(image, image->read_only ? copy_part : take_sectors);
+  return result == KEFS_OK && !image->read_only && image->layout.blocks > 0 && image->sectors >= least_sectors(&image->layout) ? take_slots(image) : result;
+}
+
+/* Room for plans, for what their commits take, and memory to make them in. The worst plan writes each page sector by sector. */
+
+enum { HEAP_OF_BLOCK = 64 << 10, HEAP = 1 << 20, HEAP_OF_DIRECTORY_PAGE = 16 << 10 };
+
+static int new_plan(struct plan *plan, size_t room) {
+  *plan = (struct plan){.room = room, .calls = new_memory(room * sizeof *plan->calls), .rows = new_memory(room * sizeof *plan->rows)};
+  return plan->calls != NULL && plan->rows != NULL;
+}
+
+static void drop_plan(struct plan *plan) {
+  drop_memory(plan->calls, plan->room * sizeof *plan->calls);
+  drop_memory(plan->rows, plan->room * sizeof *plan->rows);
+  *plan = (struct plan){0};
+}
+
+static int new_heap(struct heap *heap, const struct layout *layout) {
+  size_t length = HEAP + (size_t)HEAP_OF_BLOCK * layout->blocks + (size_t)HEAP_OF_DIRECTORY_PAGE * layout->directory_pages;
+  *heap = (struct heap){.at = new_memory(length), .length = length};
+  return heap->at != NULL;
+}
+
+int make_rooms(struct kefs_image *image) {
+  const struct layout *layout = &image->layout;
+  size_t room = layout->blocks == 0 ? (size_t)FAMSYNC_ROOM : (size_t)FAMSYNC_ROOM_OF_BLOCK * layout->blocks;
+  drop_rooms(image);
+  int has_plans = new_plan(&image->scratch, room) && new_plan(&image->plan, room) && new_heap(&image->heap, layout);
+  int has_places = new_places(layout, &image->places) == KEFS_OK;
+  image->pages = new_memory(image->places.room * sizeof *image->pages);
+  image->page_bytes = new_memory(image->places.room * sizeof *image->page_bytes);
+  return has_plans && has_places && image->pages != NULL && image->page_bytes != NULL ? KEFS_OK : fail(image, ENOMEM, "room for plans");
+}
+
+void drop_rooms(struct kefs_image *image) {
+  drop_plan(&image->scratch), drop_plan(&image->plan);
+  drop_memory(image->heap.at, image->heap.length);
+  drop_memory(image->pages, image->places.room * sizeof *image->pages);
+  drop_memory(image->page_bytes, image->places.room * sizeof *image->page_bytes);
+  drop_places(&image->places);
+  image->heap = (struct heap){0}, image->pages = NULL, image->page_bytes = NULL;
 }
 
 static int result_of(uint32_t answer) {
   switch (answer) {
     case FAMSYNC_OK: return KEFS_OK;
     case FAMSYNC_BAD_JOURNAL: return KEFS_BAD_JOURNAL;
-    case FAMSYNC_NO_ROOM: return ENOMEM;
+    case FAMSYNC_NO_ROOM: case FAMSYNC_NO_MEMORY: return ENOMEM;
     default: return KEFS_NOT_IMAGE;
   }
 }
 
 int recover(struct kefs_image *image) {
-  struct famsync_plan *scratch = image->scratch, *plan = image->plan;
-  uint32_t answer = famsync_open(&image->handle, image->bytes, image->sectors, scratch->calls, scratch->rows, &plan->used, plan->calls, plan->rows);
+  struct plan *scratch = &image->scratch, *plan = &image->plan;
+  begin_heap(&image->heap);
+  uint32_t answer = famsync_open(&image->handle, image->bytes, image->sectors, scratch->calls, scratch->room, scratch->rows, scratch->room, &plan->used,
+                                 plan->calls, plan->room, plan->rows, plan->room);
+  end_heap();
   if (answer != FAMSYNC_OK) return fail(image, result_of(answer), "opening the journal");
   if (image->read_only) return KEFS_OK;
-  image->stat.recovered += journal_pages(image);
-  return carry_out(image);
+  if (image->layout.blocks == 0) image->stat.recovered += count_of_map(image);
+  int result = take_rooms(image);
+  return result == KEFS_OK ? carry_out(image) : result;
 }
 
 static int read_image(struct kefs_image *image) {
@@ -243,11 +318,13 @@ static int read_image(struct kefs_image *image) {
   int result = settle(image);
   if (result == KEFS_OK) result = map_host_file(image);
   if (result == KEFS_OK) result = secure_head(image);
+  if (result == KEFS_OK) result = make_rooms(image);
+  if (result == KEFS_OK) result = read_head(image);
   if (result == KEFS_OK) result = recover(image);
   if (result != KEFS_OK) return result;
   image->stat.pages = home_pages(image);
   read_directory(image);
-  return find_room(image);
+  return KEFS_OK;
 }
 
 /* Images */
@@ -256,9 +333,7 @@ static struct kefs_image *new_image(void) {
   struct kefs_image *image = calloc(1, sizeof *image);
   if (image == NULL) return NULL;
   image->serial = new_serial();
-  image->fd = image->faults = image->pagemap = image->placed = -1;
-  image->scratch = new_memory(sizeof *image->scratch);
-  image->plan = new_memory(sizeof *image->plan);
+  image->fd = image->faults = image->pagemap = -1;
   pthread_mutex_init(&image->lock, NULL);
   pthread_mutex_init(&image->backups, NULL);
   return image;
@@ -293,13 +368,12 @@ static int check_created(const struct kefs_image *image, const struct opening *o
 
 /* The path and the reason of a refusal, as kefscheck has it. */
 static void say_why(struct kefs_image *image, const struct opening *opening, int result) {
-  if ((result != KEFS_NOT_IMAGE && result != KEFS_BAD_JOURNAL) || image->bytes == NULL || image->layout == NULL) return;
+  if ((result != KEFS_NOT_IMAGE && result != KEFS_BAD_JOURNAL) || image->bytes == NULL || image->layout.number == 0) return;
   struct finding finding = check_image(image);
   if (finding.result == result) fail(image, result, "%s: %s", opening->path, finding.words);
 }
 
 static int open_image(struct kefs_image *image, const struct opening *opening) {
-  if (image->scratch == NULL || image->plan == NULL) return fail(image, ENOMEM, "room for plans");
   if (sysconf(_SC_PAGESIZE) != PAGE) return fail(image, ENOSYS, "pages of %ld bytes", sysconf(_SC_PAGESIZE));
   int result = this_generation(&image->generation);
   if (result != KEFS_OK) return fail(image, result, "beginning");
@@ -333,7 +407,7 @@ int kefs_open_with(kefs_image **to, const char *path, unsigned flags, const stru
   int cancel, result = check_opening(to, path, flags, options);
   if (result != KEFS_OK) return result;
   struct opening opening = {path, flags, {0}};
-  if (options != NULL) opening.options = *options;
+  if (options != NULL) memcpy(&opening.options, options, options->size < sizeof *options ? options->size : sizeof *options);
   pthread_setcancelstate(PTHREAD_CANCEL_DISABLE, &cancel);
   result = open_new(to, &opening);
   pthread_setcancelstate(cancel, &cancel);
@@ -346,7 +420,7 @@ int kefs_open(kefs_image **to, const char *path, unsigned flags) { return kefs_o
 
 /* A plan ends in the gate's write and a sync, in either layout. Before these the commit cannot stand; after one of them failed, the gate tells. */
 static enum outcome outcome_of(const struct kefs_image *image) {
-  const struct famsync_plan *plan = image->plan;
+  const struct plan *plan = &image->plan;
   if (image->taken == 0 || image->failed + 2 < plan->used) return IS_BEFORE;
   return gate_says(image, plan->rows[plan->used - 2]) ? IS_AFTER : IS_BEFORE;
 }

@@ -2,7 +2,8 @@
 
    What a snapshot is. A copy of the used pages of the image in memory of the reader's own (a memfd), made by pread. The journal that the gate names
    is carried out there: the plan of famsync_open, which is proved to leave what the image stands for as it was at every call, and at its end each
-   page in its home, is made of the copy, and never of the file. kefs_map maps the homes of the copy to read. A refresh makes a private view of the
+   page in its home, is made of the copy, and never of the file. Of an image of layout 4 the copy is one with an empty pool: each page is put into its home
+   there from where it stands in the file. kefs_map maps the homes of the copy to read. A refresh makes a private view of the
    copy, whose pages are the copy's until they are changed, reads into that, and brings the pages that differ over at its end: a refresh that fails
    has changed nothing.
 
@@ -31,19 +32,17 @@
    What is read. Nothing where the byte of STATES is that of the snapshot, or where the file has the same time of change and it was long past when
    the snapshot was made; the journal that the gate names alone where it is the next byte, since its map names all that one commit has changed, and
    each other page is in the copy's home already, in whichever journal the file had it; that and the homes that LISTS names where it is one of the next REACH
-   bytes; else all used pages. Between two turns of one reader there is mostly one commit, and its journal is read in the second one: so at the end of each turn
-   the view is as after the newest commit, as far as it goes. */
+   bytes; else all used pages. Of a pool, in place of a journal, it is the homes that its map gives another slot than before, as each has that the last commit took.
+   Where commits came between, a home may have the slot again that it had: then LISTS names it, or, where pages were copied home meanwhile, says that it does not
+   name all. Between two turns of one reader there is mostly one commit, and its journal is read in the second one: so at the end of each turn the view is as
+   after the newest commit, as far as it goes. */
 #define _GNU_SOURCE
-#include "internal.h"
+#include "reading.h"
 #include <errno.h>
 #include <fcntl.h>
-#include <stdlib.h>
 #include <string.h>
 #include <sys/file.h>
-#include <sys/mman.h>
 #include <sys/random.h>
-#include <sys/stat.h>
-#include <time.h>
 #include <unistd.h>
 
 enum { PATIENCE = 1000, LITTLE_PATIENCE = 10, SELDOM = 10 }; /* milliseconds that a writer waits for readers; and the share of its time after a vain wait */
@@ -53,7 +52,6 @@ enum { PATIENCE = 1000, LITTLE_PATIENCE = 10, SELDOM = 10 }; /* milliseconds tha
 static const off_t INTENT = (off_t)1 << 62, TURN = INTENT + 1, NEXT = INTENT + 2, LISTS = INTENT + ((off_t)1 << 60), STATES = INTENT + ((off_t)1 << 61);
 enum { COUNT_BITS = 24, EPOCH_BITS = 32 }; /* of a place in STATES: an opening's random number, and how many commits there were since */
 enum { REACH = 16, MOST_RUNS = 32 };       /* commits that LISTS names, and runs of neighbouring homes that one of them may have there */
-enum { MOST_TOLD = 2048 };                 /* pages that are read in one turn by them */
 
 static int set_locks(int fd, short type, off_t at, off_t length) {
   struct flock lock = {.l_type = type, .l_whence = SEEK_SET, .l_start = at, .l_len = length};
@@ -123,10 +121,16 @@ int begin_change(struct kefs_image *image) {
 
 /* Where LISTS has the homes that a commit changed, which an earlier commit had before. Its last byte says that they are not all there. */
 enum { LIST_BITS = 31 };
-static off_t list_of(off_t state) { return LISTS + ((state & (REACH - 1)) << LIST_BITS); }
+off_t list_of(off_t state) { return LISTS + ((state & (REACH - 1)) << LIST_BITS); }
 static off_t end_of_list(off_t state) { return list_of(state) + ((off_t)1 << LIST_BITS) - 1; }
 
-static uint32_t home_taken(const struct kefs_image *image, size_t i) { return image->files[image->pages[i].file].first_home + image->pages[i].page; }
+static uint32_t home_taken(const struct kefs_image *image, size_t i) { return home_of_page(&image->files[image->pages[i].file], image->pages[i].page); }
+
+int has_dropped(const struct kefs_image *image) {
+  for (size_t i = 0; i < image->plan.used && image->layout.blocks > 0; i++)
+    if (image->plan.calls[i].kind == FAMSYNC_COPY) return 1;
+  return 0;
+}
 
 /* Neighbouring homes of the pages that a commit has taken, from page `i` of it on. */
 static size_t run_of(const struct kefs_image *image, size_t i) {
@@ -144,7 +148,7 @@ static int tell_homes(const struct kefs_image *image, off_t state) {
     number = set_locks(fd, F_WRLCK, list_of(state) + home_taken(image, i), (off_t)homes);
     i += homes;
   }
-  return i < image->taken && number == KEFS_OK ? set_lock(fd, F_WRLCK, end_of_list(state)) : number;
+  return (i < image->taken || has_dropped(image)) && number == KEFS_OK ? set_lock(fd, F_WRLCK, end_of_list(state)) : number;
 }
 
 /* The list is there before the state is, and INTENT goes last: a reader whose turn begins finds both. Where the list can't be had, the state is no next one of
@@ -220,111 +224,17 @@ int lock_to_read(struct kefs_image *image, long limit) {
   return look_until(try_to_share, &owning, &owning.wait);
 }
 
-/* Snapshots */
-
-enum { CHUNK = 4 << 20, PART = 1 << 18 }; /* bytes that are read in a turn, beside the journal; and in a call */
-static const off_t MOST_BYTES = (off_t)1 << 62; /* of a file */
-enum { CALM = 3000, TICK = 20 };          /* milliseconds: no file system's times are coarser; and those of one that has parts of milliseconds */
-enum { RESTARTS = 3 };                    /* of a reading whose wait is over */
-
-struct snapshot {
-  long limit;            /* milliseconds of a wait, or -1: for ever */
-  int memory;            /* a memfd, which is the copy, or -1 */
-  unsigned char *at;     /* all of it, mapped shared */
-  size_t length, before; /* of it, and how many bytes of it come before the image, so that home pages are pages of the memory */
-  off_t state;           /* what it is as of, or 0 */
-  struct timespec time;  /* of the file's last change before it was made, */
-  int is_calm;           /* and whether a later change is sure to have another one */
-};
-
-/* What a reading goes by. `state` is that of its turn, 0 in one without a writer. */
-struct reading {
-  struct kefs_image *image;
-  unsigned char *view;    /* of the memory that is read into */
-  unsigned char *altered; /* a bit for each page of it that was changed; NULL at the opening, when the view is the copy itself */
-  unsigned char *part;    /* room for what is compared with the view */
-  struct wait wait;
-  off_t state, before;    /* of this turn; and of the one before it, as of which the view is as far as it goes, or 0 */
-  int is_alone;           /* what was read counts without a writer, */
-  struct timespec time;   /* as of this time of change */
-  unsigned file;          /* the home pages of this file were read as far as this many bytes */
-  off_t done;
-  off_t data, hole;       /* the file has no hole between these */
-  int restarts;
-  struct stat facts;      /* of the host file, in this turn */
-  struct timespec began;
-};
-
-int begin_snapshot(struct kefs_image *image, long limit) {
-  struct snapshot *snapshot = calloc(1, sizeof *snapshot);
-  if (snapshot == NULL) return fail(image, ENOMEM, "a snapshot");
-  *snapshot = (struct snapshot){.limit = limit, .memory = -1};
-  image->snapshot = snapshot;
-  return KEFS_OK;
-}
-
-static void drop_copy(struct kefs_image *image) {
-  struct snapshot *snapshot = image->snapshot;
-  drop_memory(snapshot->at, snapshot->length);
-  if (snapshot->memory >= 0) close(snapshot->memory);
-  *snapshot = (struct snapshot){.limit = snapshot->limit, .memory = -1};
-  image->bytes = NULL;
-}
-
-void end_snapshot(struct kefs_image *image) {
-  if (image->snapshot == NULL) return;
-  drop_copy(image);
-  free(image->snapshot);
-  image->snapshot = NULL;
-}
-
-/* Kernels before 6.3 have not the flag that says that nobody runs it as a program. */
-static int new_memory_file(void) {
-  enum { NO_PROGRAM = 8 };
-  int fd = memfd_create("kefs", MFD_CLOEXEC | NO_PROGRAM);
-  return move_high(fd < 0 && errno == EINVAL ? memfd_create("kefs", MFD_CLOEXEC) : fd);
-}
-
-/* Memory for the copy: of zeros, as holes of the file are. */
-static int new_copy(struct kefs_image *image) {
-  struct snapshot *snapshot = image->snapshot;
-  snapshot->before = (PAGE - (size_t)home_offset(image->layout, 0) % PAGE) % PAGE;
-  snapshot->length = (snapshot->before + SECTOR * image->sectors + PAGE - 1) / PAGE * PAGE;
-  snapshot->memory = new_memory_file();
-  int number = snapshot->memory < 0 ? errno : set_length(snapshot->memory, (off_t)snapshot->length);
-  if (number != KEFS_OK) return fail(image, number, "memory for a snapshot of %zu bytes", snapshot->length);
-  void *at = mmap(NULL, snapshot->length, PROT_READ | PROT_WRITE, MAP_SHARED | MAP_NORESERVE, snapshot->memory, 0);
-  if (at == MAP_FAILED) return fail(image, ENOMEM, "memory for a snapshot");
-  snapshot->at = at;
-  image->bytes = snapshot->at + snapshot->before;
-  return KEFS_OK;
-}
-
-int file_of_bytes(const struct kefs_image *image, off_t *before) {
-  *before = image->snapshot == NULL ? 0 : (off_t)image->snapshot->before;
-  return image->snapshot == NULL ? image->fd : image->snapshot->memory;
-}
-
-int map_snapshot(struct mapping *mapping, void *wanted) {
-  const struct snapshot *snapshot = mapping->image->snapshot;
-  off_t offset = (off_t)snapshot->before + home_offset(mapping->image->layout, mapping->file.first_home);
-  size_t bytes = mapping->pages * PAGE;
-  void *at = mmap(wanted, bytes, PROT_READ, MAP_SHARED | (wanted == NULL ? 0 : MAP_FIXED_NOREPLACE), snapshot->memory, offset);
-  if (at == MAP_FAILED) return errno;
-  mapping->at = at;
-  if (wanted != NULL && at != wanted) return EEXIST; /* kernels before 4.17 */
-  return madvise(at, bytes, MADV_DONTFORK) == 0 ? KEFS_OK : errno;
-}
-
 /* Turns of a reader */
 
-static int is_busy(struct kefs_image *image) {
+int is_busy_reading(struct kefs_image *image) {
   int process = holder_of(image->fd);
   if (process == 0) return fail(image, KEFS_BUSY, "reading");
   return fail(image, KEFS_BUSY, "process %d changes the image, or does not let readers in", process);
 }
 
-static int is_same_time(const struct timespec *one, const struct timespec *other) { return one->tv_sec == other->tv_sec && one->tv_nsec == other->tv_nsec; }
+int is_same_time(const struct timespec *one, const struct timespec *other) { return one->tv_sec == other->tv_sec && one->tv_nsec == other->tv_nsec; }
+
+enum { TICK = 20 }; /* milliseconds, of a file system whose times have parts of milliseconds */
 
 static long age_of(const struct timespec *time) {
   struct timespec now;
@@ -364,7 +274,7 @@ static int wait_for_turn(struct reading *reading) {
   int number = set_lock(image->fd, F_RDLCK, NEXT);
   if (number == KEFS_OK) number = look_until(try_turn, reading, &reading->wait);
   set_lock(image->fd, F_UNLCK, NEXT);
-  if (number == EWOULDBLOCK) return is_busy(image);
+  if (number == EWOULDBLOCK) return is_busy_reading(image);
   return number == KEFS_OK ? KEFS_OK : fail(image, number == EINVAL ? ENOLCK : number, "locking");
 }
 
@@ -384,7 +294,7 @@ static int rest_till_calm(struct reading *reading, long left) {
 }
 
 /* Where the file was changed just now and no writer tells, the turn begins some milliseconds later. */
-static int begin_turn(struct reading *reading) {
+int begin_turn(struct reading *reading) {
   long begin = milliseconds(), since = begin;
   for (;;) {
     if (has_changed(reading)) reading->is_alone = 0;
@@ -400,125 +310,17 @@ static int begin_turn(struct reading *reading) {
 }
 
 /* Whether what was read in the turn is of one state. Where there is more to read, NEXT is taken first, so that one commit comes between at most. */
-static int end_turn(struct reading *reading, int is_over) {
+int end_turn(struct reading *reading, int is_over) {
   int fd = reading->image->fd, holds = reading->state == 0 ? !has_changed(reading) : state_of(fd) == reading->state;
   if (!is_over) set_lock(fd, F_RDLCK, NEXT);
   set_lock(fd, F_UNLCK, TURN);
   return holds;
 }
 
-/* Reading */
-
-static size_t page_of(const struct reading *reading, size_t offset) { return (reading->image->snapshot->before + offset) / PAGE; }
-
-/* Bytes of the view from an offset of the image on. */
-static unsigned char *view_at(const struct reading *reading, size_t offset) { return reading->view + reading->image->snapshot->before + offset; }
-
-/* Puts bytes into the view, within one page of its memory. A page that was not altered is that of the copy, and is compared there: to touch
-   one of a new view costs a fault. */
-static void put(struct reading *reading, size_t offset, const unsigned char *from, size_t length) {
-  const struct snapshot *snapshot = reading->image->snapshot;
-  size_t k = page_of(reading, offset);
-  int is_altered = reading->altered == NULL || bit_of(reading->altered, k);
-  const unsigned char *there = is_altered ? view_at(reading, offset) : snapshot->at + snapshot->before + offset;
-  if (memcmp(there, from, length) == 0) return;
-  memcpy(view_at(reading, offset), from, length);
-  if (!is_altered) set_bit(reading->altered, k);
-}
-
-static int read_at(struct reading *reading, unsigned char *to, size_t from, size_t length) {
-  int number = read_all(reading->image->fd, to, length, (off_t)from);
-  if (number == KEFS_OK) return KEFS_OK;
-  return fail(reading->image, KEFS_DEVICE, "pread of %zu bytes at sector %zu: %s", length, from / SECTOR, kefs_strerror(number));
-}
-
-/* Bytes of the file into the view. */
-static int read_bytes(struct reading *reading, size_t from, size_t end) {
-  int result = KEFS_OK;
-  for (size_t at = from, part; at < end && result == KEFS_OK; at += part) {
-    part = end - at < PART ? end - at : PART;
-    result = read_at(reading, reading->altered == NULL ? view_at(reading, at) : reading->part, at, part);
-    if (reading->altered == NULL) continue;
-    for (size_t done = 0, more; done < part && result == KEFS_OK; done += more) {
-      more = PAGE - (reading->image->snapshot->before + at + done) % PAGE;
-      if (more > part - done) more = part - done;
-      put(reading, at + done, reading->part + done, more);
-    }
-  }
-  return result;
-}
-
-/* Where the next bytes from `from` on begin that are no hole, or `end`. Where they end is kept, since some systems search long for it. */
-static off_t find_data(struct reading *reading, off_t from, off_t end) {
-  if (from < reading->data || reading->hole <= from) reading->data = next_data(reading->image->fd, from, MOST_BYTES, &reading->hole);
-  return reading->data >= end ? end : reading->data < from ? from : reading->data;
-}
-
-/* Of the copy's memory: the first page from `k` on that may hold other bytes than zeros, or `end`. */
-static size_t next_used(const struct reading *reading, size_t k, size_t end) {
-  off_t data = lseek(reading->image->snapshot->memory, (off_t)(k * PAGE), SEEK_DATA);
-  size_t used = data >= 0 ? (size_t)data / PAGE : errno == ENXIO ? end : k;
-  while (reading->altered != NULL && k < used && k < end && !bit_of(reading->altered, k)) k += k % 8 == 0 && reading->altered[k / 8] == 0 ? 8 : 1;
-  return reading->altered == NULL || k > used ? used : k;
-}
-
-/* A hole of the file is zeros, also where bytes were: tools make holes of zeros that were written, and so change no byte. */
-static void put_hole(struct reading *reading, size_t from, size_t end) {
-  static const unsigned char zeros[PAGE];
-  size_t before = reading->image->snapshot->before, last = page_of(reading, end + PAGE - 1);
-  for (size_t k = next_used(reading, page_of(reading, from), last); k < last; k = next_used(reading, k + 1, last)) {
-    size_t first = k * PAGE < before + from ? from : k * PAGE - before, stop = (k + 1) * PAGE - before;
-    put(reading, first, zeros, (stop < end ? stop : end) - first);
-  }
-}
-
-/* The bytes of home pages. */
-static int read_homes(struct reading *reading, off_t from, off_t end) {
-  int result = KEFS_OK;
-  while (result == KEFS_OK && from < end) {
-    off_t data = find_data(reading, from, end), to = reading->hole < end ? reading->hole : end;
-    put_hole(reading, (size_t)from, (size_t)data);
-    if (data < end) result = read_bytes(reading, (size_t)data, (size_t)to);
-    from = data < end ? to : end;
-  }
-  return result;
-}
-
-/* Layout and directory of an image never change: with others the file was made anew in place. */
-static int check_head(struct reading *reading) {
-  struct kefs_image *image = reading->image;
-  const struct snapshot *snapshot = image->snapshot;
-  size_t offset = (size_t)(directory_of(image) - image->bytes);
-  if (layout_of(image) != image->layout) return fail(image, KEFS_NOT_IMAGE, "another layout than before");
-  if (reading->altered == NULL) {
-    image->stat.pages = home_pages(image);
-    image->stat.files = 0;
-    return read_directory(image), KEFS_OK;
-  }
-  if (memcmp(directory_of(image), snapshot->at + snapshot->before + offset, SECTOR) == 0) return KEFS_OK;
-  return fail(image, KEFS_NOT_IMAGE, "another directory than before");
-}
-
-/* All up to the gate: mark, kind, directory, gate. */
-static int read_head(struct reading *reading) {
-  int result = read_bytes(reading, 0, (size_t)SECTOR * (reading->image->layout->gate + 1));
-  return result == KEFS_OK ? check_head(reading) : result;
-}
-
-/* The map of the journal that the gate names, and of its body the pages that the map names. */
-static int read_journal(struct reading *reading) {
-  const struct kefs_image *image = reading->image;
-  const unsigned char *map = journal_map(image);
-  if (map == NULL) return KEFS_OK;
-  size_t from = (size_t)(map - image->bytes), body = from + (size_t)SECTOR * MAP_SECTORS;
-  int result = read_bytes(reading, from, body);
-  if (result != KEFS_OK) return result;
-  size_t pages = journal_pages(image);
-  return pages > KEFS_MOST_PAGES ? KEFS_OK : read_bytes(reading, body, body + PAGE * pages);
-}
+/* What commits have told */
 
 /* How far a list of LISTS goes: the homes of one run from `at` on, or none, where `count` is 0. */
-static off_t next_run(const struct reading *reading, off_t state, off_t at, off_t *count) {
+off_t next_run(const struct reading *reading, off_t state, off_t at, off_t *count) {
   off_t found = *count = 0, end = end_of_list(state);
   if (at < end) found = locked_bytes(reading->image->fd, F_RDLCK, at, end - at, count);
   if (found == 0) return *count = 0, at;
@@ -528,7 +330,7 @@ static off_t next_run(const struct reading *reading, off_t state, off_t at, off_
 }
 
 /* How many homes the commits after `before` and before this turn's state changed, or -1 where that is not told of each. */
-static off_t count_told(const struct reading *reading) {
+off_t count_told(const struct reading *reading) {
   off_t sum = 0, count, same_epoch = reading->before >> COUNT_BITS == reading->state >> COUNT_BITS;
   if (!same_epoch || reading->state < reading->before || reading->state - reading->before > REACH) return -1;
   for (off_t state = reading->before + 1; state < reading->state; state++) {
@@ -538,220 +340,4 @@ static off_t count_told(const struct reading *reading) {
   return sum;
 }
 
-/* Reads them: each is in its home now, or in the journal that is read after it. */
-static int read_told(struct reading *reading) {
-  const struct kefs_image *image = reading->image;
-  int result = KEFS_OK;
-  off_t count;
-  for (off_t state = reading->before + 1; state < reading->state && result == KEFS_OK; state++)
-    for (off_t at = next_run(reading, state, list_of(state), &count); count > 0 && result == KEFS_OK; at = next_run(reading, state, at + count, &count)) {
-      off_t home = at - list_of(state);
-      if ((uint64_t)(home + count) > image->stat.pages) return fail(image, KEFS_NOT_IMAGE, "a list of homes that are none");
-      result = read_homes(reading, home_offset(image->layout, (uint32_t)home), home_offset(image->layout, (uint32_t)(home + count)));
-    }
-  return result;
-}
-
-static off_t home_bytes(const struct file *file) { return file->present ? (off_t)(PAGE * pages_of(file->length)) : 0; }
-
-static int is_read(struct reading *reading) {
-  while (reading->file < KEFS_FILES && reading->done >= home_bytes(&reading->image->files[reading->file])) reading->file++, reading->done = 0;
-  return reading->file == KEFS_FILES;
-}
-
-/* Of one file's homes the holes up to the next bytes, and at most so many bytes: how many of these go to *left. */
-static int read_next(struct reading *reading, off_t *left) {
-  const struct file *file = &reading->image->files[reading->file];
-  off_t begin = home_offset(reading->image->layout, file->first_home), from = begin + reading->done, end = begin + home_bytes(file);
-  off_t data = find_data(reading, from, end), to = reading->hole < end ? reading->hole : end;
-  if (to > data + *left) to = data + *left;
-  put_hole(reading, (size_t)from, (size_t)data);
-  if (data == end) return reading->done = end - begin, KEFS_OK;
-  *left -= to - data, reading->done = to - begin;
-  return read_bytes(reading, (size_t)data, (size_t)to);
-}
-
-/* A chunk of home pages: holes are no part of it. */
-static int read_some(struct reading *reading) {
-  int result = KEFS_OK;
-  for (off_t left = CHUNK; left > 0 && result == KEFS_OK && !is_read(reading);) result = read_next(reading, &left);
-  return result;
-}
-
-/* Makes the calls of a plan of the view. */
-static void make_calls(struct reading *reading) {
-  const struct famsync_plan *plan = reading->image->plan;
-  for (size_t i = 0; i < plan->used; i++) {
-    const struct famsync_call *call = &plan->calls[i];
-    size_t to = (size_t)(SECTOR * call->sector), sectors = call->kind == FAMSYNC_COPY ? PAGE / SECTOR : call->kind == FAMSYNC_WRITE ? 1 : 0;
-    const unsigned char *from = call->kind == FAMSYNC_COPY ? view_at(reading, (size_t)(SECTOR * call->from)) : plan->rows[i];
-    for (size_t s = 0; s < sectors; s++) put(reading, to + SECTOR * s, from + SECTOR * s, SECTOR);
-  }
-  famsync_done(&reading->image->handle);
-}
-
-static int check_file(struct reading *reading) {
-  struct kefs_image *image = reading->image;
-  if (fstat(image->fd, &reading->facts) != 0) return fail(image, errno, "fstat");
-  if (reading->facts.st_nlink == 0) return fail(image, ESTALE, "the image was replaced or removed");
-  return (size_t)reading->facts.st_size / SECTOR >= image->sectors ? KEFS_OK : fail(image, KEFS_NOT_IMAGE, "the image was cut");
-}
-
-/* Where no writer has told that the file is synced: as `settle`. */
-static int settle_alone(struct reading *reading) {
-  struct kefs_image *image = reading->image;
-  if (fsync(image->fd) != 0) return fail(image, device_result(errno), "fsync: %s", strerror(errno));
-  posix_fadvise(image->fd, 0, 0, POSIX_FADV_DONTNEED);
-  return KEFS_OK;
-}
-
-static int carry_journal_out(struct reading *reading) {
-  int result = read_journal(reading);
-  if (result == KEFS_OK) result = recover(reading->image);
-  if (result == KEFS_OK) make_calls(reading);
-  return result;
-}
-
-/* Reads what commits since the turn before have changed, and a chunk, and carries the journal out: beside a writer in each turn, since its next commit writes over
-   another one, and else in the last. */
-static int use_turn(struct reading *reading) {
-  int is_told = reading->state != 0 && reading->before != 0 && reading->state != reading->before;
-  clock_gettime(CLOCK_REALTIME, &reading->began);
-  int result = read_head(reading);
-  if (result == KEFS_OK && is_told) result = read_told(reading);
-  if (result == KEFS_OK) result = read_some(reading);
-  return result == KEFS_OK && (reading->state != 0 || is_read(reading)) ? carry_journal_out(reading) : result;
-}
-
-/* What was read in turns before counts beside the same writer where it told what it has changed since, and without one where the file has not changed. Else all is
-   read anew. */
-static int go_on_or_restart(struct reading *reading) {
-  int result = check_file(reading), was_alone = reading->is_alone;
-  reading->is_alone = reading->state == 0;
-  if (result != KEFS_OK) return result;
-  off_t told = reading->state != 0 && reading->before != 0 ? count_told(reading) : -1;
-  if ((told >= 0 && told <= MOST_TOLD) || (reading->is_alone && was_alone)) return KEFS_OK;
-  if (reading->restarts++ > RESTARTS && milliseconds() >= reading->wait.end) return is_busy(reading->image);
-  reading->file = 0, reading->done = 0, reading->before = 0;
-  return reading->is_alone ? settle_alone(reading) : KEFS_OK;
-}
-
-/* Turns until all is read. */
-static int read_used(struct reading *reading) {
-  int result = begin_turn(reading);
-  while (result == KEFS_OK) {
-    result = go_on_or_restart(reading);
-    if (result == KEFS_OK) result = use_turn(reading);
-    int is_over = result != KEFS_OK || is_read(reading), holds = end_turn(reading, is_over);
-    reading->before = holds ? reading->state : 0;
-    reading->is_alone &= holds;
-    if (holds && is_over) return result;
-    result = begin_turn(reading);
-  }
-  return result;
-}
-
-/* Past a file's end its last page is zeros, whatever the image holds there. */
-static void put_zeros(struct reading *reading) {
-  static const unsigned char zeros[PAGE];
-  const struct kefs_image *image = reading->image;
-  for (unsigned f = 0; f < KEFS_FILES; f++) {
-    const struct file *file = &image->files[f];
-    size_t inside = file->length % PAGE, last = file->length / PAGE;
-    if (!file->present || inside == 0) continue;
-    put(reading, (size_t)home_offset(image->layout, file->first_home + (uint32_t)last) + inside, zeros, PAGE - inside);
-  }
-}
-
-static int read_view(struct reading *reading) {
-  struct kefs_image *image = reading->image;
-  int result = read_used(reading);
-  if (result != KEFS_OK) return result;
-  put_zeros(reading);
-  image->snapshot->state = reading->state;
-  image->snapshot->time = reading->facts.st_ctim;
-  image->snapshot->is_calm = reading->began.tv_sec - reading->facts.st_ctim.tv_sec > CALM / 1000;
-  return KEFS_OK;
-}
-
-/* The kind of an image never changes, so that it is read before any turn: room for the copy is made by it. */
-static int check_kind(struct kefs_image *image) {
-  int result = read_kind(image);
-  if (result != KEFS_OK || image->sectors >= image->layout->homes) return result;
-  return fail(image, KEFS_NOT_IMAGE, "%s: it has %zu sectors, under %u", image->path, image->sectors, (unsigned)image->layout->homes);
-}
-
-int read_snapshot(struct kefs_image *image) {
-  struct stat there;
-  drop_copy(image);
-  if (fstat(image->fd, &there) != 0) return fail(image, errno, "fstat");
-  image->sectors = (size_t)there.st_size / SECTOR;
-  int result = check_kind(image);
-  if (result == KEFS_OK) result = new_copy(image);
-  struct reading reading = {.image = image, .view = image->snapshot->at, .wait = wait_of(image->snapshot->limit)};
-  return result == KEFS_OK ? read_view(&reading) : result;
-}
-
-/* Refreshing */
-
-/* Brings the pages that differ over: whether a home page does. */
-static int show(struct reading *reading) {
-  struct kefs_image *image = reading->image;
-  const struct snapshot *snapshot = image->snapshot;
-  size_t pages = snapshot->length / PAGE, homes = page_of(reading, (size_t)home_offset(image->layout, 0));
-  int changed = 0;
-  for (size_t k = 0; k < pages; k++) {
-    if (k % 8 == 0 && reading->altered[k / 8] == 0) k += 7;
-    else if (bit_of(reading->altered, k) && memcmp(snapshot->at + k * PAGE, reading->view + k * PAGE, PAGE) != 0) {
-      memcpy(snapshot->at + k * PAGE, reading->view + k * PAGE, PAGE);
-      changed |= k >= homes;
-      if (k >= homes && image->late != NULL) set_bit(image->late, k - homes);
-    }
-  }
-  return changed;
-}
-
-/* Whether the file surely is as it was for the snapshot: it has not changed since, or the writer has not committed. */
-static int is_same(const struct kefs_image *image) {
-  const struct snapshot *snapshot = image->snapshot;
-  struct stat now;
-  if (fstat(image->fd, &now) != 0 || now.st_nlink == 0) return 0;
-  return (snapshot->is_calm && is_same_time(&now.st_ctim, &snapshot->time)) || (snapshot->state != 0 && state_of(image->fd) == snapshot->state);
-}
-
-/* For the time of the reading the image's bytes are those of the view. */
-static int refresh_by(struct reading *reading, int *changed) {
-  struct kefs_image *image = reading->image;
-  const struct snapshot *snapshot = image->snapshot;
-  image->bytes = reading->view + snapshot->before;
-  int result = read_view(reading);
-  image->bytes = snapshot->at + snapshot->before;
-  forget_places(image);
-  if (result == KEFS_OK) *changed = show(reading);
-  return result;
-}
-
-static int refresh(struct kefs_image *image, int *changed) {
-  struct snapshot *snapshot = image->snapshot;
-  *changed = 0;
-  if (is_same(image)) return KEFS_OK;
-  size_t bits = snapshot->length / PAGE / 8 + 1;
-  void *view = mmap(NULL, snapshot->length, PROT_READ | PROT_WRITE, MAP_PRIVATE | MAP_NORESERVE, snapshot->memory, 0);
-  struct reading reading = {.image = image, .view = view == MAP_FAILED ? NULL : view, .altered = new_memory(bits), .part = new_memory(PART),
-                            .wait = wait_of(snapshot->limit), .file = KEFS_FILES, .before = snapshot->state};
-  int has_memory = reading.view != NULL && reading.altered != NULL && reading.part != NULL;
-  int result = has_memory ? refresh_by(&reading, changed) : fail(image, ENOMEM, "memory for a refresh");
-  drop_memory(reading.view, snapshot->length);
-  drop_memory(reading.altered, bits);
-  drop_memory(reading.part, PART);
-  return result;
-}
-
-int kefs_refresh(kefs_image *image, int *changed) {
-  int differs, result = enter(image);
-  if (result != KEFS_OK) return result;
-  if (image->snapshot == NULL) return leave(image, fail(image, EINVAL, "the image was not opened with KEFS_SNAPSHOT"));
-  result = refresh(image, &differs);
-  if (result == KEFS_OK && changed != NULL) *changed = differs;
-  return leave(image, result);
-}
+off_t state_now(const struct kefs_image *image) { return state_of(image->fd); }

@@ -12,7 +12,7 @@ static const struct { int result; const char *name, *text; } RESULTS[] = {
   {KEFS_BAD_JOURNAL, "KEFS_BAD_JOURNAL", "the image's journal has a map that no commit writes"},
   {KEFS_BUSY, "KEFS_BUSY", "another process or handle has the image open"},
   {KEFS_NO_FILE, "KEFS_NO_FILE", "the image has no such file, or it is not mapped"},
-  {KEFS_TOO_MANY, "KEFS_TOO_MANY", "a commit takes at most 1023 dirty pages"},
+  {KEFS_TOO_MANY, "KEFS_TOO_MANY", "more pages are dirty than one commit takes"},
   {KEFS_READ_ONLY, "KEFS_READ_ONLY", "the image or the file may only be read"},
   {KEFS_BAD_RANGE, "KEFS_BAD_RANGE", "the bytes do not lie in one mapped file"},
   {KEFS_DEVICE, "KEFS_DEVICE", "a read, write or sync of the image failed"},

@@ -23,13 +23,14 @@ static unsigned char *page_at(const struct mapping *mapping, size_t k) { return 
 
 /* Pages that are read when they are first touched.
 
-   The durable bytes of a page lie in its home for as long as it was not read: `load` reads each page that the journal holds,
-   and a page gets into the journal by a commit alone, which takes pages that were read. So its home is never written while the
-   image is open: a late home is that of a page of the journal. No other program writes it, since the image is locked. A read
+   The durable bytes of a page lie in its home for as long as it was not read: `load` reads each page that the journal
+   holds, and a page gets into the journal by a commit alone, which takes pages that were read. So its home is never written while the
+   image is open: a late home is that of a page of the journal. Of a pool's page they lie in the slot that `load` has noted: it is given to no other home before
+   a plan copies its page home, and no plan does so before `fill_slotted` has read all of these. No other program writes it, since the image is locked. A read
    of the home at any moment gives the same bytes, and one after the page was stored to never comes, since UFFDIO_COPY leaves a
    page alone that is there. A host file that is cut meanwhile fails the copy, and the fault is passed on as that of any mapped
    file that was cut. */
-enum { AROUND = 16 };
+enum { AROUND = 16, AT_ONCE = 512 };
 
 /* Gives unread pages these bytes: how many, or 0 and errno. */
 static size_t copy_pages(const struct mapping *mapping, size_t first, size_t end, const unsigned char *from) {
@@ -49,22 +50,27 @@ static size_t copy_by_call(const struct mapping *mapping, size_t k, off_t at) {
   return copy_pages(mapping, k, k + 1, bytes);
 }
 
-/* Reads the pages from `first` on that follow each other unread, up to `end`, or fewer: how many, or 0 and errno. */
-static size_t copy_homes(const struct mapping *mapping, size_t first, size_t end) {
+/* Where an unread page lies. */
+static size_t unread_sector(const struct mapping *mapping, size_t k) {
+  if (mapping->slots != NULL && mapping->slots[k] != 0) return mapping->slots[k];
+  return home_sector(&mapping->image->layout, home_of_page(&mapping->file, k));
+}
+
+/* Reads the pages from `first` on that follow each other unread, in the file too, up to `end`, or fewer: how many, or 0 and errno. */
+static size_t copy_unread(const struct mapping *mapping, size_t first, size_t end) {
   const struct kefs_image *image = mapping->image;
-  uint32_t home = mapping->file.first_home + (uint32_t)first;
-  off_t at = home_offset(image->layout, home);
-  if (may_lack_room(image, home)) return copy_by_call(mapping, first, at);
-  for (size_t k = first + 1; k < end && image->roomless != NULL; k++)
-    if (may_lack_room(image, mapping->file.first_home + (uint32_t)k)) end = k;
-  return copy_pages(mapping, first, end, image->bytes + at);
+  size_t sector = unread_sector(mapping, first), stop = first + 1;
+  if (may_lack_room(image, sector)) return copy_by_call(mapping, first, (off_t)(SECTOR * sector));
+  for (size_t next = sector + PAGE / SECTOR; stop < end && stop < first + AT_ONCE; stop++, next += PAGE / SECTOR)
+    if (unread_sector(mapping, stop) != next || may_lack_room(image, next)) break;
+  return copy_pages(mapping, first, stop, sector_at(image, sector));
 }
 
 /* EAGAIN: the process's memory was being changed; again. */
 int fill_missing(const struct span *span) {
   if (!span->mapping->image->lazy) return KEFS_OK;
   for (size_t k = span->first; k < span->end;) {
-    size_t read = copy_homes(span->mapping, k, span->end);
+    size_t read = copy_unread(span->mapping, k, span->end);
     if (read > 0) k += read;
     else if (errno == EEXIST) k++;
     else if (errno != EAGAIN) return errno == ENOMEM ? ENOMEM : EIO;
@@ -75,7 +81,22 @@ int fill_missing(const struct span *span) {
 static int fill_around(const struct mapping *mapping, size_t k) {
   size_t end = (k / AROUND + 1) * AROUND;
   if (end > mapping->pages) end = mapping->pages;
-  return copy_homes(mapping, k, end) > 0 || errno == EEXIST || errno == EAGAIN;
+  return copy_unread(mapping, k, end) > 0 || errno == EEXIST || errno == EAGAIN;
+}
+
+static int fill_slots_of(struct mapping *mapping) {
+  int number = KEFS_OK;
+  for (size_t k = 0; k < mapping->pages && mapping->has_unread && number == KEFS_OK; k++)
+    if (mapping->slots[k] != 0) number = fill_missing(&(struct span){mapping, k, k + 1});
+  if (number == KEFS_OK) mapping->has_unread = 0;
+  return number;
+}
+
+int fill_slotted(struct kefs_image *image) {
+  int number = KEFS_OK;
+  for (unsigned f = 0; f < KEFS_FILES && number == KEFS_OK; f++)
+    if (image->mappings[f].at != NULL) number = fill_slots_of(&image->mappings[f]);
+  return number;
 }
 
 /* Signals */
@@ -282,13 +303,23 @@ static int put_page(struct mapping *mapping, size_t k) {
   return KEFS_OK;
 }
 
-/* Reads the pages whose bytes are not those of their homes: the pages of the journal, and a last page that zeros end. */
+static int note_slot(struct mapping *mapping, size_t k, uint32_t sector) {
+  if (mapping->slots == NULL) mapping->slots = new_memory(mapping->pages * sizeof *mapping->slots);
+  if (mapping->slots == NULL) return ENOMEM;
+  mapping->slots[k] = sector, mapping->has_unread = 1;
+  return KEFS_OK;
+}
+
+/* Reads the pages whose bytes are not those of their homes: the pages of the journal or the pool, and a last page that zeros end. Of a pool, which may be large, they
+   are read late too. */
 static int put_others(struct mapping *mapping) {
-  uint32_t first = mapping->file.first_home, count = journal_pages(mapping->image);
+  const struct kefs_image *image = mapping->image;
+  const struct places *places = image_places(mapping->image);
   int number = mapping->file.length % PAGE == 0 ? KEFS_OK : put_page(mapping, mapping->pages - 1);
-  for (uint32_t i = 0; i < count && number == KEFS_OK; i++) {
-    uint32_t home = journal_home(mapping->image, i);
-    if (home >= first && home - first < mapping->pages) number = put_page(mapping, home - first);
+  for (size_t i = 0; i < places->count && number == KEFS_OK; i++) {
+    size_t k = page_of_home(&mapping->file, mapping->pages, places->list[i].home);
+    if (k == mapping->pages) continue;
+    number = image->lazy && image->layout.blocks > 0 ? note_slot(mapping, k, places->list[i].sector) : put_page(mapping, k);
   }
   return number;
 }
@@ -297,10 +328,15 @@ static int put_others(struct mapping *mapping) {
    a page that was ever written. */
 static int read_homes(struct mapping *mapping) {
   const struct kefs_image *image = mapping->image;
-  size_t length = mapping->pages * PAGE;
-  off_t from = home_offset(image->layout, mapping->file.first_home);
-  if (image->roomless == NULL) madvise(mapping->at, length, MADV_HUGEPAGE);
-  int number = image->roomless == NULL ? read_all(image->fd, mapping->at, length, from) : read_data(image->fd, mapping->at, length, from);
+  int number = KEFS_OK, is_sparse = image->roomless != NULL;
+  if (!is_sparse) madvise(mapping->at, mapping->pages * PAGE, MADV_HUGEPAGE);
+  for (size_t k = 0, run; k < mapping->pages && number == KEFS_OK; k += run) {
+    uint32_t home = 0;
+    run = homes_from(&mapping->file, k, &home);
+    if (run > mapping->pages - k) run = mapping->pages - k;
+    off_t from = home_offset(&image->layout, home);
+    number = is_sparse ? read_data(image->fd, page_at(mapping, k), run * PAGE, from) : read_all(image->fd, page_at(mapping, k), run * PAGE, from);
+  }
   return number == KEFS_OK ? KEFS_OK : EIO;
 }
 

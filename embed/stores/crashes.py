@@ -3,8 +3,8 @@
 OUT holds what `run` builds. Of each store STATES states are tried over kefs, in equal parts over its rows, and of each row at most ALONE_MOST alone:
 a third of them in each model of powercuts.py, in rounds of one recorded run each. A state is bad where `workload check` finds it as after no transaction,
 where the store refuses, crashes or hangs, and where a transaction is missing that was acknowledged. Alone a store may repair itself first. Over kefs it
-may not; the state is read twice, apart from the library (tools/imagecat) and by kefsrun, and has to be the same. Images are of LAYOUT: 3, as kefsrun
-makes them, or 2.
+may not; the state is read twice, apart from the library (tools/imagecat) and by kefsrun, and has to be the same. Images are of LAYOUT: 4, as kefsrun
+makes them, 3 or 2.
 
 The last row is a control: a disk that ignores one sync in three, over which no library keeps anything whole. Where no state of it is bad this
 test is blind. The exit status is 1 then, or where a state over kefs is bad, else 0.
@@ -25,7 +25,7 @@ import powercuts
 
 HERE = os.path.dirname(os.path.abspath(__file__))
 sys.path.insert(1, os.path.join(HERE, ".."))
-from images import LAYOUTS, new_image  # noqa: E402
+from images import new_image  # noqa: E402
 
 IMAGECAT = os.path.join(HERE, "..", "..", "tools", "imagecat")
 ROOM = 2 << 20  # as workload.h has it
@@ -135,13 +135,13 @@ class Trial:
     def recorded(self, seed):
         """Runs the workload: the bytes of the file, or of the image, before the recorded part, and the trace of that."""
         self.clear("run")
-        if self.is_kefs and self.layout != 3:
+        if self.is_kefs and self.layout != 4:
             written(self.path("run.img"), new_image([ROOM, LENGTH_FILE], layout=self.layout))
         file, trace = self.path("run.img" if self.is_kefs else "run.db"), self.path("run.trace")
         self.must_run(self.workload("run", "run", str(seed), str(BEFORE)))
         with open(file, "rb") as content:
             base = content.read()
-        if self.is_kefs and not base.startswith(LAYOUTS[self.layout].mark):
+        if self.is_kefs and not base.startswith(b"FAMSYNC%d" % self.layout):
             sys.exit(f"crashes: {file} is not of layout {self.layout}")
         self.must_run(self.workload("run", "run", str(seed), str(RECORDED)), RECORDED=file, TRACE=trace, LD_PRELOAD=os.path.join(self.out, "recorder.so"))
         return base, trace

@@ -37,7 +37,8 @@ static const char usage[] =
   "COMMAND may be any program: a copy by tar or cp has the bytes of DATAFILE. What can't be done to it, as rename, is refused in a line. One process has\n"
   "IMAGE at a time, and a shell that redirects to or from DATAFILE is one; stat alone holds nothing.\n"
   "\n"
-  "A commit takes at most 1,023 pages of 4,096 bytes; a larger one fails with E2BIG. COMMAND has to be linked dynamically. Its exit status is\n"
+  "A commit takes at least 2,016 pages of 4,096 bytes, 1,023 of an IMAGE that an older kefsrun made; a larger one may fail with E2BIG.\n"
+  "COMMAND has to be linked dynamically. Its exit status is\n"
   "kefsrun's; 2 is a wrong word here, 125 another failure of kefsrun, 126 and 127 a COMMAND that cannot be run or is not there.\n";
 
 struct options { const char *commit_at, *image, *data; uint32_t length; int is_verbose, is_import; char **command; };

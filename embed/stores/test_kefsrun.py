@@ -183,17 +183,17 @@ print(m[0])
 
     def test_a_roll_back_of_an_update_that_was_too_large(self):
         begin = "import sqlite3, sys\nbase = sqlite3.connect(sys.argv[1])\nbase.execute('pragma synchronous=full')\n"
-        fill = begin + "base.execute('create table t(id integer primary key, b blob)')\nfor i in range(12):\n  with base:\n    base.executemany('insert into t(b) values(?)', [(b'a' * 4000,)] * 100)\n"
+        fill = begin + "base.execute('create table t(id integer primary key, b blob)')\nfor i in range(42):\n  with base:\n    base.executemany('insert into t(b) values(?)', [(b'a' * 4000,)] * 100)\n"
         update = begin + "base.execute('pragma cache_size=10')\nbase.execute('update t set b=?', (b'b' * 4000,))\nbase.commit()\n"
         check = begin + "print(base.execute('select count(*), sum(b = ?) from t', (b'a' * 4000,)).fetchone(), base.execute('pragma integrity_check').fetchone())\n"
 
         def run(text):
-            return self.kefsrun(sys.executable, "-c", text, self.data, options=("-m", "16M"))
+            return self.kefsrun(sys.executable, "-c", text, self.data, options=("-m", "24M"))
 
         self.assertEqual(run(fill).returncode, 0)
         self.assertNotEqual(run(update).returncode, 0)
         done = run(check)
-        self.assertEqual((done.returncode, done.stdout), (0, "(1200, 1200) ('ok',)\n"), done.stderr)
+        self.assertEqual((done.returncode, done.stdout), (0, "(4200, 4200) ('ok',)\n"), done.stderr)
         self.assertFalse(os.path.exists(f"{self.data}-journal"))
 
     def test_an_orderly_end_keeps_what_was_stored(self):
@@ -249,14 +249,14 @@ print(m[0])
         done = self.python(f"import subprocess, sys\nsys.exit(subprocess.run([sys.executable, '-c', {inner!r}]).returncode)")
         self.says(done, 1, os.strerror(errno.EBUSY))
 
-    def test_a_commit_of_over_1023_pages(self):
-        most = ("-m", "8M")
-        text = "os.ftruncate(fd, 1 << 23)\nos.fsync(fd)\nm = mmap.mmap(fd, 1 << 23)\nfor k in range({0}): m[4096 * k] = {1}\ntry:\n    os.fsync(fd)\nexcept OSError as error:\n    print(error.errno)\n"
-        self.assertEqual(self.python(text.format(1023, 1), options=most).stdout, "")
-        self.assertEqual(self.python(text.format(1024, 1), options=most).stdout, "")  # all but one are as they are durable
-        done = self.python(text.format(1024, 2), options=most)
+    def test_a_commit_of_over_4031_pages(self):
+        most = ("-m", "16M")
+        text = "os.ftruncate(fd, 1 << 24)\nos.fsync(fd)\nm = mmap.mmap(fd, 1 << 24)\nfor k in range({0}): m[4096 * k] = {1}\ntry:\n    os.fsync(fd)\nexcept OSError as error:\n    print(error.errno)\n"
+        self.assertEqual(self.python(text.format(4031, 1), options=most).stdout, "")
+        self.assertEqual(self.python(text.format(4032, 1), options=most).stdout, "")  # all but one are as they are durable
+        done = self.python(text.format(4032, 2), options=most)
         self.assertEqual(done.stdout, f"{errno.E2BIG}\n")
-        self.assertIn("over 1023 pages", done.stderr)
+        self.assertIn("over 4031 pages", done.stderr)
 
     def test_what_is_refused(self):
         for call, number in (

@@ -99,19 +99,24 @@ static void refuse_in_words(int wanted, const char *words) {
   }
 }
 
-static void a_refused_image_has_its_path_and_the_reason(void) {
-  make_file(PATH, PAGES, 0);
-  write_over(512 * image_sectors()->directory + 8 * 5, "\1", 1);
-  refuse_in_words(KEFS_NOT_IMAGE, "entry 5 of the directory is of no file, and not zero");
-  make_file(PATH, PAGES, 0);
-  CHECK(truncate(PATH, 512 * 300) == 0);
-  refuse_in_words(KEFS_NOT_IMAGE, "it has 300 sectors, under ");
+static void refuse_a_bad_journal(void) {
   make_file(PATH, PAGES, 0);
   char gate[512];
   for (int i = 0; i < 512; i += 8) memcpy(gate + i, "GATEOPEN", 8);
   write_over(512 * image_sectors()->gate, gate, sizeof gate);
   write_over(512 * image_sectors()->map, "\2\0\0\0\1\0\0\0\1\0\0\0", 12);
   refuse_in_words(KEFS_BAD_JOURNAL, "pages 0 and 1 of the journal have one home");
+}
+
+static void a_refused_image_has_its_path_and_the_reason(void) {
+  make_file(PATH, PAGES, 0);
+  write_over(512 * image_sectors()->directory + (image_layout() == 4 ? 256 * 5 + 8 : 8 * 5), "\1", 1);
+  refuse_in_words(KEFS_NOT_IMAGE, "entry 5 of the directory is of no file, and not zero");
+  make_file(PATH, PAGES, 0);
+  CHECK(truncate(PATH, 512 * 300) == 0);
+  refuse_in_words(KEFS_NOT_IMAGE, "it has 300 sectors, under ");
+  if (image_layout() != 4) refuse_a_bad_journal(); /* no map of a pool is bad */
+  make_file(PATH, PAGES, 0);
   write_over(0, "no image", 8);
   refuse_in_words(KEFS_NOT_IMAGE, "sector 0 is not the mark of an image");
   CHECK(truncate(PATH, 0) == 0);

@@ -1,11 +1,12 @@
-/* costs FOLDER: what calls may cost at most: of sparse files by what was ever written and not by their lengths, of waits next to nothing. Processor time and memory
-   are counted, which other work on the machine hardly changes. Each case is a process of its own (cases.h). */
+/* costs FOLDER: what calls may cost at most: of commits a number of writes and syncs, of sparse files by what was ever written and not by their lengths, of waits next to
+   nothing. Calls, processor time and memory are counted, which other work on the machine hardly changes. Each case is a process of its own (cases.h). */
 #define _GNU_SOURCE
 #define PROGRAM "costs"
 #include "cases.h"
 #include <sys/file.h>
 #include <sys/resource.h>
 #include <sys/syscall.h>
+#include <sys/uio.h>
 
 static double processor_seconds(void) { return seconds_of(CLOCK_PROCESS_CPUTIME_ID); }
 
@@ -61,6 +62,67 @@ static void a_backup_of_empty_files_is_cheap(void) {
     if (i == 1) DONE(kefs_close(source));
   }
   CHECK(processor_seconds() - start < 2);
+  DONE(kefs_close(image));
+}
+
+/* Commits */
+
+static long writes, copied; /* calls that write, and those that write homes */
+
+static void note_write(off_t at) { writes++, copied += at >= 512 * image_sectors()->homes; }
+
+ssize_t pwritev(int fd, const struct iovec *parts, int count, off_t at) {
+  note_write(at);
+  return syscall(SYS_pwritev, fd, parts, count, at, 0);
+}
+
+ssize_t pwrite(int fd, const void *from, size_t length, off_t at) {
+  note_write(at);
+  return syscall(SYS_pwrite64, fd, from, length, at);
+}
+
+static struct kefs_stat facts(void) {
+  struct kefs_stat stat = {.size = sizeof stat};
+  DONE(kefs_stat(image, &stat));
+  return stat;
+}
+
+/* Of pages in a run it writes them, a map and the gate, each by one call, as long as the pages that are in slots and the new ones are no more than half of the
+   slots. */
+static void a_commit_to_a_pool_writes_no_home(void) {
+  static const int runs[] = {1, 10, 100, 1000, 900, 10, 1};
+  if (image_layout() != 4) _exit(SKIPPED);
+  flags = KEFS_TRACK_CALLER;
+  begin(2000, 0);
+  for (size_t i = 0; i < COUNT_OF(runs); i++) {
+    struct kefs_stat before = facts();
+    writes = 0;
+    for (int k = 0; k < runs[i]; k++) store(a + (size_t)(k + (i == 4 ? 1000 : 0)) * PAGE, (unsigned char)i);
+    DONE(kefs_commit(image, NULL, 0, NULL));
+    struct kefs_stat after = facts();
+    CHECK(after.written_bytes - before.written_bytes <= (uint64_t)(runs[i] + MAP_BLOCKS) * PAGE + 512 && after.syncs - before.syncs == 2 && copied == 0);
+    if (i < 4) CHECK(writes == 3);
+  }
+  DONE(kefs_close(image));
+}
+
+/* A pool with no room for a commit and for what is in it copies that home, once, and then has room for many. */
+static void a_full_pool_is_emptied_at_once(void) {
+  if (image_layout() != 4) _exit(SKIPPED);
+  flags = KEFS_TRACK_CALLER;
+  begin(2100, 0);
+  for (int k = 0; k < 2000; k++) store(a + (size_t)k * PAGE, 1);
+  DONE(kefs_commit(image, NULL, 0, NULL));
+  for (int k = 2000; k < 2100; k++) store(a + (size_t)k * PAGE, 2);
+  CHECK(copied == 0);
+  DONE(kefs_commit(image, NULL, 0, NULL));
+  CHECK(copied > 0 && facts().syncs == 4);
+  copied = 0;
+  for (int i = 0; i < 19; i++) {
+    for (int k = 100 * i; k < 100 * i + 100; k++) store(a + (size_t)k * PAGE, 3);
+    DONE(kefs_commit(image, NULL, 0, NULL));
+  }
+  CHECK(copied == 0);
   DONE(kefs_close(image));
 }
 
@@ -138,7 +200,7 @@ static void a_reading_waits_asleep_until_times_tell_changes(void) {
 }
 
 static const struct test with_each_tracker[] = {TEST(a_map_of_an_empty_file_is_cheap)};
-static const struct test once[] = {TEST(a_backup_of_empty_files_is_cheap), TEST(a_wait_takes_hardly_any_time_of_a_processor), TEST(a_wait_without_a_limit_is_one_sleep),
+static const struct test once[] = {TEST(a_commit_to_a_pool_writes_no_home), TEST(a_full_pool_is_emptied_at_once), TEST(a_backup_of_empty_files_is_cheap), TEST(a_wait_takes_hardly_any_time_of_a_processor), TEST(a_wait_without_a_limit_is_one_sleep),
   TEST(a_reading_waits_asleep_until_times_tell_changes)};
 
 int main(int argc, char **argv) { return argc < 2 ? 2 : run_cases(argv, once, COUNT_OF(once), with_each_tracker, COUNT_OF(with_each_tracker)); }

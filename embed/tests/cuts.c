@@ -7,10 +7,11 @@
    reached the disk, no later sync writes the others, and reads show them until the system is told to drop what it keeps.
 
    kept     a control: the system keeps what it has, whatever it is told. Some images have to be torn then.
-   blocks   power is cut, and each block of 4,096 bytes that has an unsynced sector may hold any bytes, in all its sectors. Layout 3
-            stands that, and layout 2 does not, which is the control: some of its images have to be torn.
+   blocks   power is cut, and each block of 4,096 bytes that has an unsynced sector may hold any bytes, in all its sectors. Layouts 3
+            and 4 stand that, and layout 2 does not, which is the control: some of its images have to be torn.
 
-   The images are of layout 3, or of that which the environment's LAYOUT says; those that the library makes are of layout 3. */
+   The images are of layout 4, or of that which the environment's LAYOUT says; those that the library makes are of layout 4. Of these some commits find a pool so
+   full that they copy pages home. */
 #define _GNU_SOURCE
 #include "tests.h"
 #include <errno.h>
@@ -25,7 +26,7 @@
 #include <sys/uio.h>
 #include <unistd.h>
 
-enum { PAGE = KEFS_PAGE, SECTOR = 512, PAGES = 12, MOST_SECTORS = 16408 + 8 * PAGES, MOST_BYTES = SECTOR * MOST_SECTORS, FILLINGS = 4 };
+enum { PAGE = KEFS_PAGE, SECTOR = 512, PAGES = 12, MOST_SECTORS = POOL_FRONT + 8 * (DIRECTORY_PAGES + PAGES), MOST_BYTES = SECTOR * MOST_SECTORS, FILLINGS = 4 };
 enum { BLOCK = 8, FIRST_PAGES = 8 }; /* sectors of a block; pages of file 0 */
 enum model { DROPS, KEEPS, BLOCKS };
 static const char *const PATH = "cuts.img";
@@ -35,6 +36,8 @@ static unsigned char disk[MOST_BYTES], cached[MOST_BYTES], left[MOST_BYTES], dir
 static size_t bytes, sectors;  /* of the image */
 static unsigned char used[MOST_SECTORS]; /* what commits of so few pages can write: of the rest of the journals nothing is looked at */
 static enum model model;
+static size_t map_blocks = MAP_BLOCKS; /* of a pool */
+static long each = 1, seen; /* of calls that are neither syncs nor writes of the gate power is cut before each so many */
 static int watched = -1;    /* the descriptor whose calls are noted, or -1 */
 static int is_cutting;      /* power is cut before each call */
 static enum kind { ANY, GATE_WRITE, SYNC, KINDS } counted; /* which calls are noted, */
@@ -57,13 +60,21 @@ static void expect(int holds, const char *what, int line) {
 
 static void use(size_t first, size_t end) { memset(used + first / BLOCK * BLOCK, 1, (end + BLOCK - 1) / BLOCK * BLOCK - first / BLOCK * BLOCK); }
 
+/* Of a pool: the block of a map that says how many count. Slots are behind it. */
+static size_t map_of_pool(size_t j) { return 16 + 4040 * map_blocks * j + BLOCK * (map_blocks - 1); }
+
+enum { SLOTS = 2 * PAGES }; /* of a body that commits of so few pages take */
+
+static size_t homes_of(int layout) { return layout == 4 ? 16 + 8080 * map_blocks : (size_t)sectors_of(layout)->homes; }
+
 /* A journal is a map of a block and a body. */
 static void use_image(int layout) {
-  size_t homes = layout == 2 ? 8195 : 16408, journals = BLOCK * (1 + PAGES);
-  sectors = homes + BLOCK * PAGES, bytes = SECTOR * sectors;
+  size_t homes = homes_of(layout), journals = BLOCK * (1 + PAGES), map[] = {map_of_pool(0), map_of_pool(1)};
+  sectors = homes + BLOCK * (PAGES + (layout == 4 ? DIRECTORY_PAGES : 0)), bytes = SECTOR * sectors;
   memset(used, 0, sizeof used);
   if (layout == 2) use(0, 3 + journals);
-  else use(0, 24 + journals), use(8216, 8216 + journals);
+  else if (layout == 3) use(0, 24 + journals), use(8216, 8216 + journals);
+  else use(0, 9), use(map[0], map[0] + BLOCK * (1 + SLOTS)), use(map[1], map[1] + BLOCK * (1 + SLOTS));
   use(homes, sectors);
 }
 
@@ -129,7 +140,7 @@ static void cut_power(int is_over) {
 /* The library's calls */
 
 static int fails(enum kind kind) {
-  if (is_cutting) cut_power(0);
+  if (is_cutting && (kind != ANY || seen++ % each == 0)) cut_power(0);
   if (counted != ANY && counted != kind) return 0;
   if (++calls != failing) return 0;
   errno = failing_number;
@@ -209,9 +220,11 @@ static int try_opening(void) {
   return KEFS_OK;
 }
 
+static int most_stored = PAGES;
+
 static void store_some(void) {
   memcpy(before, after, sizeof before);
-  for (int n = 1 + (int)(random() % PAGES); n > 0; n--) {
+  for (int n = 1 + (int)(random() % most_stored); n > 0; n--) {
     unsigned char *at = page_at((int)(random() % PAGES));
     for (int i = 0; i < PAGE; i += 1 + (int)(random() % 64)) at[i] = (unsigned char)random();
   }
@@ -231,11 +244,18 @@ static void close_image(void) {
   watched = -1;
 }
 
+/* A new image. That of layout 4 has the smallest pool. */
+static void make_new(void) {
+  struct kefs_file specs[] = {{FIRST_PAGES * PAGE, 0, NULL}, {(PAGES - FIRST_PAGES) * PAGE, 0, NULL}};
+  struct kefs_options options = {.size = sizeof options, .permissions = 0600, .files = specs, .count = 2, .pool = 1};
+  unlink(PATH);
+  if (image_layout() != 4) must(format_image(PATH, 0600, specs, 2), PATH);
+  else must(kefs_open_with(&image, PATH, KEFS_CREATE, &options), PATH), must(kefs_close(image), PATH);
+}
+
 /* Begins on a device that holds a new image, all of it synced. */
 static void begin(void) {
-  struct kefs_file specs[] = {{FIRST_PAGES * PAGE, 0, NULL}, {(PAGES - FIRST_PAGES) * PAGE, 0, NULL}};
-  unlink(PATH);
-  must(format_image(PATH, 0600, specs, 2), PATH);
+  make_new();
   watched = -1;
   int from = (int)syscall(SYS_openat, AT_FDCWD, PATH, O_RDONLY);
   if (pread(from, disk, bytes, 0) != (ssize_t)bytes) die(PATH);
@@ -244,6 +264,44 @@ static void begin(void) {
   memset(dirty, 0, sizeof dirty), memset(before, 0, sizeof before), memset(after, 0, sizeof after);
   failing = 0;
   must(try_opening(), PATH);
+}
+
+/* Full pools */
+
+enum { FULL = 984 }; /* of 1,008 slots */
+
+static void put_bytes(size_t sector, const void *from, size_t length) {
+  memcpy(disk + SECTOR * sector, from, length), memcpy(cached + SECTOR * sector, from, length);
+  int fd = (int)syscall(SYS_openat, AT_FDCWD, PATH, O_WRONLY);
+  if (syscall(SYS_pwrite64, fd, from, length, SECTOR * sector) != (long)length) die(PATH);
+  close(fd);
+}
+
+/* Has the map that the gate names give nearly all slots to homes, each to the first of its own, and to others that are not looked at. */
+static void fill_pool(void) {
+  static uint32_t map[1024];
+  int is_open = memcmp(cached + SECTOR * image_sectors()->gate, "GATEOPEN", 8) == 0;
+  memset(map, 0, sizeof map);
+  map[0] = 1;
+  for (uint32_t slot = 0; slot < FULL; slot++) map[16 + slot] = 1 + DIRECTORY_PAGES + slot % PAGES;
+  put_bytes(map_of_pool((size_t)is_open), map, sizeof map);
+  for (size_t k = 0; k < PAGES; k++) put_bytes(map_of_pool(0) + BLOCK * (1 + k), after + k * PAGE, PAGE);
+}
+
+/* A commit to it copies the pages home that it does not take. */
+static void try_full_pools(int commits) {
+  struct kefs_stat stat = {.size = sizeof stat};
+  each = 61, most_stored = 4;
+  use(0, sectors);
+  for (int i = 0; i < commits / 10 + 1; i++) {
+    close_image();
+    fill_pool();
+    must(try_opening(), PATH);
+    commit_some(1);
+    must(kefs_stat(image, &stat), "stat");
+    EXPECT(stat.written_bytes > (uint64_t)FULL / 2 * PAGE);
+  }
+  each = 1, most_stored = PAGES;
 }
 
 /* Failing calls */
@@ -426,13 +484,14 @@ static int tell(int commits) {
 int main(int argc, char **argv) {
   if (argc < 3 || chdir(argv[1]) != 0) return 2;
   model = argc < 4 ? DROPS : strcmp(argv[3], "kept") == 0 ? KEEPS : BLOCKS;
-  open_left(3);
-  if (model == DROPS && image_layout() == 3) try_making();
+  open_left(4);
+  if (model == DROPS && image_layout() == 4) try_making();
   if (bad > 0) return 1;
-  failures = 0;
+  failures = 0, map_blocks = 1;
   open_left(image_layout());
   begin();
   for (int i = 0; i < atoi(argv[2]); i++) commit_some(1);
-  if (model != BLOCKS || image_layout() == 3) try_failures(atoi(argv[2]));
+  if (model != BLOCKS || image_layout() != 2) try_failures(atoi(argv[2]));
+  if (model != KEEPS && image_layout() == 4) try_full_pools(atoi(argv[2]));
   return tell(atoi(argv[2]));
 }

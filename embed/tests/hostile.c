@@ -176,7 +176,7 @@ static void small_stacks_suffice(void) {
   pthread_t thread;
   const char *size = getenv("STACK");
   pthread_attr_init(&attributes);
-  CHECK(pthread_attr_setstacksize(&attributes, (size_t)(size == NULL ? 96 : atoi(size)) * 1024) == 0);
+  CHECK(pthread_attr_setstacksize(&attributes, (size_t)(size == NULL ? 128 : atoi(size)) * 1024) == 0);
   CHECK(pthread_create(&thread, &attributes, use_all_calls, NULL) == 0 && pthread_join(thread, NULL) == 0);
 }
 
@@ -264,7 +264,7 @@ static void a_store_between_two_ranges_is_not_lost(void) {
 
 /* As where a program plays its own roll back after a commit of too many pages. */
 static void pages_that_are_as_durable_are_not_too_many(void) {
-  enum { MANY = 1500 };
+  enum { MANY = 4100 };
   size_t taken = 0;
   begin(MANY, 5);
   for (int k = 0; k < MANY; k++) store(a + k * PAGE, 6);
@@ -286,6 +286,31 @@ static void pages_that_are_as_durable_are_not_too_many(void) {
   DONE(kefs_close(image));
 }
 
+static void commit_pages(int first, int end, unsigned char value) {
+  for (int k = first; k < end; k++) store(a + k * PAGE, value);
+  DONE(kefs_commit(image, NULL, 0, NULL));
+}
+
+/* Pages of a small pool that are not read before it copies them home, and gives their slots to others. */
+static void pages_that_leave_their_slots_unread_are_kept(void) {
+  enum { MANY = 900, IN_POOL = 400 };
+  struct kefs_file file = {MANY * PAGE, 0, NULL};
+  struct kefs_options options = {.size = sizeof options, .permissions = 0600, .files = &file, .count = 1, .pool = 1};
+  unlink(PATH);
+  DONE(kefs_open_with(&image, PATH, KEFS_CREATE, &options));
+  DONE(kefs_close(image));
+  a = open_file(PATH, &image);
+  commit_pages(0, IN_POOL, 1);
+  open_again();
+  CHECK(a[7 * PAGE] == 1);
+  commit_pages(5, 9, 2);
+  for (int i = 0; i < 5; i++) commit_pages(IN_POOL + 10 * i, IN_POOL + 10 * i + 400, (unsigned char)(3 + i));
+  for (int k = 0; k < IN_POOL; k++) CHECK(a[k * PAGE] == (k >= 5 && k < 9 ? 2 : 1));
+  open_again();
+  for (int k = 0; k < IN_POOL; k++) CHECK(a[k * PAGE] == (k >= 5 && k < 9 ? 2 : 1));
+  DONE(kefs_close(image));
+}
+
 static void a_sparse_file_takes_room_as_it_fills(void) {
   struct kefs_file sparse[] = {{PAGES * PAGE, 0, NULL}, {64u << 20, KEFS_FILE_SPARSE, NULL}, {PAGES * PAGE, 0, NULL}};
   struct stat there;
@@ -299,14 +324,14 @@ static void a_sparse_file_takes_room_as_it_fills(void) {
   for (no_room = ENOSPC; no_room == ENOSPC; no_room = no_room == ENOSPC ? EDQUOT : 0) {
     store(a + 7777 * (size_t)PAGE, 1), store(a + 9 * PAGE, 2);
     RETURNS(no_room, kefs_commit(image, NULL, 0, NULL));
-    CHECK(written() == 2 && strstr(kefs_errmsg(image), "room for 2 pages in the journal") != NULL);
+    CHECK(written() == 2 && strstr(kefs_errmsg(image), "room for sectors ") != NULL);
   }
   no_room = 0;
   DONE(kefs_commit(image, NULL, 0, NULL));
   store(a + 100 * PAGE, 3);
   no_room = ENOSPC;
   RETURNS(ENOSPC, kefs_commit(image, NULL, 0, NULL));
-  CHECK(written() == 1 && strstr(kefs_errmsg(image), "room for page 100 of file 1") != NULL);
+  CHECK(written() == 1 && strstr(kefs_errmsg(image), "room for sectors ") != NULL);
   no_room = 0;
   DONE(kefs_commit(image, NULL, 0, NULL));
   DONE(kefs_close(image));
@@ -438,7 +463,7 @@ static double timed_roll_back(uint32_t pages, uint32_t journal) {
 }
 
 static void a_roll_back_beside_a_full_journal_is_quick(void) {
-  double one = timed_roll_back(32768, 1), full = timed_roll_back(32768, 1023);
+  double one = timed_roll_back(32768, 1), full = timed_roll_back(32768, (uint32_t)image_sectors()->most);
   CHECK(full < 4 * one + 0.05);
 }
 
@@ -461,7 +486,8 @@ static void a_wait_ends(void) {
 
 static void add_one(void) {
   struct kefs_file file = {PAGE, 0, NULL};
-  struct kefs_options options = {.size = sizeof options, .permissions = 0600, .files = &file, .count = 1};
+  size_t older = offsetof(struct kefs_options, pool); /* where nothing of `pool` is looked at */
+  struct kefs_options options = {.size = older, .permissions = 0600, .files = &file, .count = 1, .pool = UINT32_MAX};
   void *at;
   DONE(kefs_open_with(&image, PATH, KEFS_CREATE, &options));
   DONE(kefs_map(image, 0, NULL, &at, NULL));
@@ -538,7 +564,7 @@ static void a_child_of_a_killed_owner_keeps_the_lock(void) {
 static const struct test with_each_tracker[] = {
   TEST(lines_to_closed_streams_reach_no_image), TEST(locked_memory_is_read), TEST(a_cancelled_thread_leaves_no_lock),
   TEST(a_jump_into_mapped_memory_is_a_fault), TEST(no_bytes_are_no_pages), TEST(small_stacks_suffice), TEST(a_backup_beside_commits_is_whole),
-  TEST(pages_that_are_as_durable_are_not_too_many), TEST(few_pages_are_marked_where_mappings_are_short), TEST(a_store_between_two_ranges_is_not_lost), TEST(a_sparse_file_takes_room_as_it_fills)};
+  TEST(pages_that_are_as_durable_are_not_too_many), TEST(few_pages_are_marked_where_mappings_are_short), TEST(a_store_between_two_ranges_is_not_lost), TEST(a_sparse_file_takes_room_as_it_fills), TEST(pages_that_leave_their_slots_unread_are_kept)};
 static const struct test once[] = {
   TEST(an_opening_takes_the_file_that_has_the_name), TEST(a_kill_leaves_a_whole_image_or_none), TEST(want_of_descriptors_changes_no_tracker),
   TEST(a_full_device_is_told), TEST(what_is_no_file_is_refused_at_once), TEST(other_page_sizes_are_refused),

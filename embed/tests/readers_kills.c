@@ -129,7 +129,7 @@ static size_t content(unsigned char *to, size_t room) {
 
 /* The reader writes nothing; both that opens then and that was there see it whole, before or after, and so does the next writer. */
 static int is_killed(int call) {
-  static unsigned char before[16 << 20], after[16 << 20];
+  static unsigned char before[32 << 20], after[32 << 20];
   make_file(PATH, PAGES * PAGE, 0);
   kefs_image *earlier;
   unsigned char *other = opened(&earlier, PATH, KEFS_SNAPSHOT);
@@ -339,8 +339,9 @@ static void a_stopped_reader_is_waited_for_by_an_opening(void) {
 
 /* Without a writer a reader keeps no lock that keeps one out, and what it has read before the writer came is not taken for whole. An image of layout 2 is all holes
    here, so that little of it is read. */
+/* Of an older image, which these tests make with holes, there is less to read. */
 static void a_reader_that_was_stopped_alone_keeps_no_writer_out(void) {
-  for (int read = 2; read <= (image_layout() == 2 ? 2 : 8); read += 2) {
+  for (int read = 2; read <= (image_layout() == 4 ? 8 : 2); read += 2) {
     make_file(PATH, TWO_TURNS * PAGE, 0);
     pid_t child = reader_that_stops(read);
     double start = now();

@@ -1,10 +1,9 @@
-"""stops.py LIBRARY COMMITS [LAYOUT]: lists the plans of random commits on an image of layout 3, or of LAYOUT, stops
+"""stops.py LIBRARY COMMITS [LAYOUT]: lists the plans of random commits on an image of layout 4, or of LAYOUT, stops
 each plan before each of its calls and at its end, with the unsynced sectors as they were, as they became, torn in their midst or of any
 bytes, and opens what is left. It has to stand for the files before or after, and at the end for those after."""
 import ctypes as c, random, sys
-from images import LAYOUTS, new_image
-ROOM, LENGTHS, LAYOUT = 16384, [20000, 9000, 1], int(sys.argv[3]) if len(sys.argv) > 3 else 3
-HOMES = LAYOUTS[LAYOUT].homes
+from images import LAYOUTS, new_image, new_pool_image, standing_homes
+ROOM, LENGTHS, LAYOUT = 16384, [20000, 9000, 1], int(sys.argv[3]) if len(sys.argv) > 3 else 4
 WRITE, SYNC, LENT, COPY = 1, 2, 3, 4
 
 
@@ -13,7 +12,7 @@ class Call(c.Structure):
 
 
 class Plan(c.Structure):
-    _fields_ = [("used", c.c_size_t), ("calls", Call * ROOM), ("rows", (c.c_ubyte * 512) * ROOM)]
+    _fields_ = [("calls", Call * ROOM), ("rows", (c.c_ubyte * 512) * ROOM)]
 
 
 class Page(c.Structure):
@@ -44,7 +43,9 @@ def bytes_of(k, image, data):
 def asked(name, state, image, data=(), *rest):
     """The answer and the calls of the plan: sector and bytes of each, or None of a sync."""
     lent, handle, used = (c.c_ubyte * len(image)).from_buffer_copy(image), c.c_uint32(state), c.c_size_t(0)
-    answer = getattr(library, name)(c.byref(handle), lent, c.c_size_t(len(image) // 512), scratch.calls, scratch.rows, c.byref(used), plan.calls, plan.rows, *rest)
+    room = c.c_size_t(ROOM)
+    answer = getattr(library, name)(c.byref(handle), lent, c.c_size_t(len(image) // 512), scratch.calls, room, scratch.rows, room, c.byref(used),
+                                    plan.calls, room, plan.rows, room, *rest)
     assert bytes(lent) == image, "the image was written"
     assert all(WRITE <= plan.calls[k].kind <= COPY for k in range(used.value)), "a call of no kind"
     kinds.update(plan.calls[k].kind for k in range(used.value))
@@ -53,7 +54,10 @@ def asked(name, state, image, data=(), *rest):
 
 def homes(image):
     answer, calls = asked("famsync_open", 0, image)
-    return carried_out(image, calls)[512 * HOMES :] if answer == 0 else None
+    if answer != 0:
+        return None
+    left = carried_out(image, calls)
+    return standing_homes(bytes(left)) if LAYOUT == 4 else left[512 * LAYOUTS[LAYOUT].homes :]
 
 
 def committed(image, pages, data):
@@ -90,7 +94,8 @@ def stops(image, calls, before, after):
 
 random.seed(1)
 kinds = set()
-image, bad, tried, places = new_image(LENGTHS, layout=LAYOUT), 0, 0, [(f, k) for f, n in enumerate(LENGTHS) for k in range((n + 4095) // 4096)]
+image = new_pool_image(LENGTHS, blocks=1) if LAYOUT == 4 else new_image(LENGTHS, layout=LAYOUT)
+bad, tried, places = 0, 0, [(f, k) for f, n in enumerate(LENGTHS) for k in range((n + 4095) // 4096)]
 for _ in range(int(sys.argv[2])):
     pages = random.sample(places, random.randint(1, len(places)))
     answer, calls = committed(image, pages, [random.randbytes(4096) for _ in pages])

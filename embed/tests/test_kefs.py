@@ -1,5 +1,5 @@
 """python3 -m unittest test_kefs: the Python binding, over KEFS_LIBRARY, and images that it makes against those of images.py and, where
-crates/pagefmt is built, of pagefmt. Images that are not made by the library are of both layouts."""
+crates/pagefmt is built, of pagefmt. Images that are not made by the library are of all layouts."""
 
 import ctypes
 import errno
@@ -16,7 +16,7 @@ import time
 import unittest
 
 import kefs
-from images import LAYOUTS, new_image, with_journal, with_open_journal
+from images import LAYOUTS, new_image, new_pool_image, pool_homes, with_journal, with_open_gate, with_open_journal, with_pool
 
 HERE = os.path.dirname(os.path.abspath(__file__))
 KEFSCHECK = os.path.join(HERE, "../out/kefscheck")
@@ -29,14 +29,14 @@ def content(path):
 
 
 def live_images(lengths, pages, read_only=()):
-    """Images with these pages, by their homes, in the journal that the gate names: of layout 2, and of layout 3 in either one."""
-    new = new_image(lengths, read_only, 3)
-    return with_open_journal(new_image(lengths, read_only), pages), with_journal(new, pages, 3, opened=False), with_open_journal(new, pages, 3)
+    """Images with these pages, by their homes, in the journal that the gate names: of layout 2, of layout 3 in either one, and of layout 4 in the pool, where homes
+    are later by those of the directory, under either map."""
+    new, pool, later = new_image(lengths, read_only, 3), new_image(lengths, read_only, 4), {4 + home: content for home, content in pages.items()}
+    older = with_open_journal(new_image(lengths, read_only), pages), with_journal(new, pages, 3, opened=False), with_open_journal(new, pages, 3)
+    return *older, with_pool(pool, later, opened=False), with_open_gate(with_pool(pool, later), 4)
 
 
-def image_layout(image):
-    """The layout that an image has by its kind."""
-    return 3 if image[512:1024] == LAYOUTS[3].mark * 64 else 2
+LIVE_LAYOUTS = (2, 3, 3, 4, 4)
 
 
 class Images(unittest.TestCase):
@@ -53,7 +53,17 @@ class Images(unittest.TestCase):
 
     def test_a_new_image_is_as_the_format_says(self):
         kefs.format(self.path, [3 * 4096, kefs.File(5000, read_only=True), 0, 1])
-        self.assertEqual(content(self.path), new_image([3 * 4096, 5000, 0, 1], read_only=[1], layout=3))
+        self.assertEqual(content(self.path), new_image([3 * 4096, 5000, 0, 1], read_only=[1], layout=4))
+        for number, (pool, blocks) in enumerate(((1, 1), (1008, 1), (1009, 2), (0, 4), (2064384, 2048))):
+            path = self.path + str(number)
+            with kefs.open(path, create=[4097, kefs.File(1 << 20, sparse=True)], pool=pool) as image:
+                self.assertEqual(image.stat()["most_pages"], 504 * blocks)
+            with open(path, "rb") as file:
+                self.assertEqual(file.read(1024), new_pool_image([], blocks=1)[:520] + blocks.to_bytes(4, "little") + new_pool_image([], blocks=1)[524:1024])
+            self.assertEqual(blocks > 4 or content(path) == new_pool_image([4097, 1 << 20], blocks=blocks), True)
+        with self.assertRaises(OSError) as caught:
+            kefs.open(self.path + "9", create=[1], pool=2064385)
+        self.assertEqual(caught.exception.errno, errno.EINVAL)
         self.assertRaises(FileExistsError, kefs.format, self.path, [1])
         self.assertRaises(ValueError, kefs.format, self.path + "2", [1 << 32])
 
@@ -65,7 +75,7 @@ class Images(unittest.TestCase):
             with open(os.path.join(self.folder, name), "wb") as file:
                 file.write(given)
         specs = ["zero:12288", "ro:two", "rw:three", "rw:two", "zero:1"]
-        subprocess.run([PAGEFMT, "new3", "made", *specs], cwd=self.folder, check=True)
+        subprocess.run([PAGEFMT, "new4", "made", *specs], cwd=self.folder, check=True)
         two = kefs.File(9001, content=bytes_of_two)
         kefs.format(self.path, [12288, two._replace(read_only=True), 0, two, 1])
         self.assertEqual(content(self.path), content(os.path.join(self.folder, "made")))
@@ -79,7 +89,7 @@ class Images(unittest.TestCase):
         with kefs.open(self.path) as image:
             self.assertEqual(struct.unpack_from("<Q", image.map(0), 4096), (77,))
             self.assertEqual(image.map(0)[0], 0)
-            self.assertEqual(image.stat()["recovered"], 1)
+            self.assertEqual(image.stat()["recovered"], 0)
 
     def test_an_exception_rolls_back(self):
         with self.opened() as image:
@@ -91,13 +101,13 @@ class Images(unittest.TestCase):
             self.assertEqual((view[5], other[6], image.count_dirty(), image.commit()), (0, 1, 1, 1))
 
     def test_a_refused_commit_rolls_back(self):
-        with self.opened([1030 * 4096]) as image:
+        with self.opened([4050 * 4096]) as image:
             view = image.map(0)
             with self.assertRaises(kefs.TooMany) as caught:
                 with image.transaction():
-                    for page in range(1030):
+                    for page in range(4050):
                         view[4096 * page] = 1
-            self.assertIn("1023", str(caught.exception))
+            self.assertIn("4031", str(caught.exception))
             self.assertEqual((image.count_dirty(), view[4096]), (0, 0))
 
     def test_ranges(self):
@@ -257,26 +267,29 @@ class Images(unittest.TestCase):
         with self.assertRaises(kefs.OtherFiles):
             kefs.open(self.path, create=[6, kefs.File(1 << 30, sparse=True)])
 
-    def test_images_of_both_layouts(self):
+    def test_images_of_all_layouts(self):
         for number, before in enumerate(live_images([2 * 4096, 5000], {1: b"j" * 4096, 3: b"k" * 4096})):
             with open(self.path, "wb") as file:
                 file.write(before)
             with kefs.open(self.path) as image:
-                self.assertEqual((image.stat()["layout"], image.stat()["recovered"]), (2 if number == 0 else 3, 2))
+                layout = LIVE_LAYOUTS[number]
+                self.assertEqual((image.stat()["layout"], image.stat()["recovered"]), (layout, 0 if layout == 4 else 2))
                 self.assertEqual((bytes(image.map(0)), bytes(image.map(1))), (bytes(4096) + b"j" * 4096, bytes(4096) + b"k" * 904))
                 with image.transaction():
                     image.map(0)[5] = 7
                 image.backup(self.path + str(number))
             with kefs.open(self.path) as image, kefs.open(self.path + str(number)) as copy:
                 self.assertEqual((image.map(0)[5], bytes(copy.map(0)), bytes(copy.map(1))), (7, bytes(image.map(0)), bytes(image.map(1))))
-                self.assertEqual((copy.stat()["layout"], copy.stat()["recovered"]), (3, 0))
-            self.assertEqual(content(self.path)[512 * LAYOUTS[image_layout(before)].directory :][:512], content(self.path + str(number))[512 * 9 :][:512])
+                self.assertEqual((copy.stat()["layout"], copy.stat()["recovered"]), (4, 0))
+            made = content(self.path + str(number))
+            self.assertEqual(made[: 512 * pool_homes(made) + 16384], new_image([2 * 4096, 5000], layout=4)[: 512 * pool_homes(made) + 16384])
 
     def test_a_new_image_takes_room(self):
-        for name, file, room in (("1", 4096, 512 * 16408 + 4096), ("2", kefs.File(4096, sparse=True), 16384)):
+        length = 512 * (16 + 8080 * 4) + 5 * 4096
+        for name, file, room in (("1", 4096, length), ("2", kefs.File(4096, sparse=True), 40960)):
             kefs.format(self.path + name, [file])
             facts = os.stat(self.path + name)
-            self.assertEqual(facts.st_size, 512 * 16408 + 4096)
+            self.assertEqual(facts.st_size, length)
             self.assertIn(facts.st_blocks * 512 - room, (0, 4096))  # some file systems count a block of their own
 
     def test_a_backup(self):
@@ -423,19 +436,41 @@ class Checks(unittest.TestCase):
         images = live_images([8192, 5000, 0], {1: b"j" * 4096, 3: b"k" * 4096}, read_only=[1])
         files = ["file 0: 8192 bytes, 2 pages from home 0 on", "file 1: 5000 bytes, 2 pages from home 2 on, read-only"]
         files.append("file 2: 0 bytes, 0 pages from home 4 on")
-        for image, layout, journal in zip(images, (2, 3, 3), ("open", "0 of two", "1 of two")):
-            self.assertEqual(self.told_of(image), (0, [f"layout: {layout}, 4 pages", *files, f"journal: {journal}, 2 pages", "would open: yes"]))
+        later = ["file 0: 8192 bytes, 2 pages from home 4 on", "file 1: 5000 bytes, 2 pages from home 6 on, read-only", "file 2: 0 bytes, 0 pages"]
+        journals = [f"journal: {it}, 2 pages" for it in ("open", "0 of two", "1 of two")] + [f"pool: map {it} of two, 2 pages in 4032 slots" for it in (0, 1)]
+        for image, layout, journal in zip(images, LIVE_LAYOUTS, journals):
+            homes, told = (8, later) if layout == 4 else (4, files)
+            self.assertEqual(self.told_of(image), (0, [f"layout: {layout}, {homes} pages", *told, journal, "would open: yes"]))
             self.assertEqual(self.told("dump", self.path, "0"), (0, bytes(4096) + b"j" * 4096, ""))
             self.assertEqual(self.told("dump", self.path, "1"), (0, bytes(4096) + b"k" * 904, ""))
             self.assertEqual(self.told("dump", self.path, "3")[0], 1)
         self.assertEqual(self.told_of(new_image([1]))[1][2:], ["journal: closed", "would open: yes"])
+
+    def test_an_upgrade(self):
+        images = live_images([8192, 5000, 0], {1: b"j" * 4096, 3: b"k" * 4096}, read_only=[1])
+        later = ["file 0: 8192 bytes, 2 pages from home 4 on", "file 1: 5000 bytes, 2 pages from home 6 on, read-only", "file 2: 0 bytes, 0 pages"]
+        for n, (image, layout) in enumerate(zip(images, LIVE_LAYOUTS)):
+            new = f"{self.path}{n}"
+            with open(self.path, "wb") as file:
+                file.write(image)
+            os.chmod(self.path, 0o640)
+            status, lines, error = self.told("upgrade", self.path, new)
+            self.assertEqual(content(self.path), image)
+            if layout == 4:
+                self.assertEqual((status, error, os.path.exists(new)), (1, f"kefscheck: {self.path}: it has layout 4 already\n", False))
+                continue
+            self.assertEqual((status, lines, error, os.stat(new).st_mode & 0o777), (0, b"", "", 0o640))
+            self.assertEqual(self.told(new)[1].decode().splitlines()[1:], ["layout: 4, 8 pages", *later, "pool: map 0 of two, 0 pages in 4032 slots", "would open: yes"])
+            self.assertEqual(self.told("dump", new, "0"), (0, bytes(4096) + b"j" * 4096, ""))
+            self.assertEqual(self.told("dump", new, "1"), (0, bytes(4096) + b"k" * 904, ""))
+            self.assertEqual(self.told("upgrade", self.path, new)[0], 1)
 
     def test_an_image_in_use(self):
         with kefs.open(self.path, create=[4096]) as image:
             image.map(0)[0] = 65
             image.commit()
             status, lines, _ = self.told(self.path)
-            self.assertEqual((status, lines.decode().splitlines()[-3:]), (1, ["journal: 1 of two, 1 pages", f"in use: by process {os.getpid()}", "would open: not now"]))
+            self.assertEqual((status, lines.decode().splitlines()[-3:]), (1, ["pool: map 1 of two, 1 pages in 4032 slots", f"in use: by process {os.getpid()}", "would open: not now"]))
             self.assertEqual(self.told("dump", self.path, "0")[::2], (1, f"kefscheck: {self.path}: process {os.getpid()} has {self.path}: another process or handle has the image open\n"))
 
     def test_damaged_images(self):
@@ -458,6 +493,54 @@ class Checks(unittest.TestCase):
             self.assertEqual(self.told_of(whole[: 512 * 100])[1], [f"would open: no, KEFS_NOT_IMAGE: it has 100 sectors, under {places.homes}"])
         self.assertEqual(self.told_of(b"")[1], ["would open: no, KEFS_NOT_IMAGE: it has less than a sector"])
         self.assertIn("upgrade", self.told_of(new_image([1], layout=1))[1][0])
+
+    def test_damaged_pools(self):
+        whole = new_image([8192, 5000], layout=4)
+        directory = 512 * pool_homes(whole)
+        damages = {
+            (0, b"X"): "sector 0 is not the mark",
+            (0, b"FAMSYNC3" * 64): "sector 0 is the mark of layout 3, and sector 1 the kind of layout 4",
+            (520, b"\0"): "sector 0 is the mark of layout 4, and sector 1 is not its kind",
+            (521, b"\10"): "sector 0 is the mark of layout 4, and sector 1 is not its kind",
+            (524, b"\5"): "file 0 has a home of the directory",
+            (directory, b"\2"): "entry 0 of the directory has flags that no file has",
+            (directory, b"\0"): "entry 0 of the directory is of no file, and not zero",
+            (directory + 4, b"\37"): "entry 0 of the directory has over 30 extents",
+            (directory + 4, b"\0"): "file 0 has more pages than homes",
+            (directory + 9, b"\x30"): "file 0 has more pages than homes",
+            (directory + 12, b"\1"): "file 0 has a length of over four bytes",
+            (directory + 16, b"\7"): "file 0 does not end within the image",
+            (directory + 20, b"\3"): "files 0 and 1 share a page",
+            (directory + 256 * 10 + 255, b"\1"): "entry 10 of the directory is of no file, and not zero",
+        }
+        for (at, damage), reason in damages.items():
+            self.try_damaged(whole[:at] + damage + whole[at + len(damage) :], False, reason)
+        self.assertEqual(self.told_of(whole[: directory + 512])[1], [f"would open: no, KEFS_NOT_IMAGE: it has {pool_homes(whole) + 1} sectors, under {pool_homes(whole) + 32}"])
+
+    def test_files_of_many_extents(self):
+        pieces, homes = [(20, 1), (9, 0), (4, 3), (30, 2)], [20, 4, 5, 6, 30, 31]
+        image = bytearray(new_pool_image([20 * 4096, 30 * 4096], blocks=1))
+        entry = b"".join(it.to_bytes(4, "little") for it in (1, len(pieces), 6 * 4096 - 10, 0, *sum(pieces, ())))
+        start = 512 * pool_homes(image)
+        image[start:start + 512] = entry.ljust(512, b"\0")
+        for number, home in enumerate(homes):
+            image[start + 4096 * home:start + 4096 * (home + 1)] = bytes([65 + number]) * 4096
+        image = with_pool(bytes(image), {5: b"x" * 4096, 31: b"y" * 4096}, opened=False)
+        wanted = b"A" * 4096 + b"B" * 4096 + b"x" * 4096 + b"D" * 4096 + b"E" * 4096 + b"y" * 4086
+        self.assertEqual(self.told_of(image)[1][1], "file 0: 24566 bytes, 6 pages from home 20 on, from home 9 on, from home 4 on, from home 30 on")
+        self.assertEqual(self.told("dump", self.path, "0"), (0, wanted, ""))
+        for flags in (kefs.RDONLY, kefs.LAZY, kefs.SNAPSHOT, kefs.TRACK_SIGNAL):
+            with kefs.open(self.path, flags) as opened:
+                self.assertEqual(bytes(opened.map(0)), wanted)
+        with kefs.open(self.path) as opened, kefs.open(self.path, kefs.SNAPSHOT) as reader:
+            view, seen = opened.map(0), reader.map(0)
+            for page in (0, 1, 5):
+                view[4096 * page] = 90
+            opened.commit()
+            self.assertEqual((reader.refresh(), bytes(seen)), (True, bytes(view)))
+            opened.backup(self.path + "2")
+        with kefs.open(self.path + "2") as copy, kefs.open(self.path) as opened:
+            self.assertEqual((bytes(copy.map(0)), copy.map(0)[4096]), (bytes(opened.map(0)), 90))
 
     def try_damaged(self, image, is_journal, reason):
         status, lines = self.told_of(image)

@@ -109,9 +109,12 @@ static void store(unsigned char *at) {
 static kefs_image *images[MODES];
 static unsigned char *mapped[MODES];
 
-/* Each home is written once before, so that the file system has a place for each block. */
+/* Each home is written once before, and each slot of a pool, so that the file system has a place for each block. */
 static void write_homes(const char *path, uint32_t pages) {
+  static const unsigned char zeros[PAGE];
   int fd = open(path, O_RDWR);
+  for (off_t at = 16 * SECTOR; at < SECTOR * POOL_FRONT && image_layout() == 4; at += PAGE)
+    if (pwrite(fd, zeros, PAGE, at) != PAGE) die(path);
   for (uint32_t k = 0; k < pages; k += PAGES)
     if (pwrite(fd, ready, PAGES * PAGE, SECTOR * image_sectors()->homes + (off_t)PAGE * k) != PAGES * PAGE) die(path);
   fsync(fd), close(fd);
@@ -457,5 +460,5 @@ int main(int argc, char **argv) {
   sync_time = number_of(argc, argv, is_worn ? 5 : 6);
   if (commits < 1 || count < 1) return 2;
   if (is_worn) return time_worn((size_t)count, commits);
-  return count > KEFS_MOST_PAGES ? 2 : time_commits(commits);
+  return (unsigned long)count > image_sectors()->most ? 2 : time_commits(commits);
 }

@@ -1,5 +1,5 @@
-/* kefscheck IMAGE: tells what an image is, and whether it would open. kefscheck dump IMAGE FILE: writes one of its files out. It is built
-   from the parts of the library, and writes to no image. */
+/* kefscheck IMAGE: tells what an image is, and whether it would open. kefscheck dump IMAGE FILE: writes one of its files out. kefscheck upgrade OLD
+   NEW: makes an image of layout 4 of an older one. It is built from the parts of the library, and writes to no image that is there. */
 #define _GNU_SOURCE
 #include "internal.h"
 #include <errno.h>
@@ -13,12 +13,15 @@
 static const char USAGE[] =
   "usage: kefscheck IMAGE\n"
   "       kefscheck dump IMAGE FILE\n"
+  "       kefscheck upgrade OLD NEW\n"
   "\n"
-  "The first form tells of an image its layout, its files, what its journal holds, who has it open, and whether it would open, and if\n"
-  "not, why. The second one writes file number FILE, 0 to 63, to standard output, as the last commit left it. The image is only read; while\n"
-  "a program has it open to write, the first form may see a commit half made, and the second one is refused.\n"
+  "The first form tells of an image its layout, its files, what its journal or pool holds, who has it open, and whether it would open, and if\n"
+  "not, why. The second one writes file number FILE, 0 to 63, to standard output, as the last commit left it. The third one makes NEW, where\n"
+  "nothing may be, an image of layout 4 with the files of OLD, an image of layout 2 or 3, as its last commit left them: whole, or not at all.\n"
+  "An image that is there is only read; while a program has it open to write, the first form may see a commit half made, and the others are\n"
+  "refused.\n"
   "\n"
-  "The exit status is 0 where the image would open or the file was written, 2 for other words than these, and else 1.\n";
+  "The exit status is 0 where the image would open, the file was written or NEW was made, 2 for other words than these, and else 1.\n";
 
 static int failed(const char *what, const char *why) {
   fprintf(stderr, "kefscheck: %s: %s\n", what, why);
@@ -27,30 +30,33 @@ static int failed(const char *what, const char *why) {
 
 /* Telling */
 
-static void tell_files(const struct kefs_image *image) {
-  for (unsigned f = 0; f < KEFS_FILES; f++) {
-    struct file file = read_entry(directory_of(image) + 8 * f);
-    if (!file.present) continue;
-    printf("file %u: %lu bytes, %lu pages from home %lu on%s\n", f, (unsigned long)file.length, (unsigned long)pages_of(file.length),
-           (unsigned long)file.first_home, file.read_only ? ", read-only" : "");
+static void tell_files(struct kefs_image *image) {
+  for (unsigned f = 0; f < KEFS_FILES && f < entries_of(&image->layout); f++) {
+    struct file file;
+    const char *why;
+    if (read_entry(image, f, &file, &why) != KEFS_OK || !file.present) continue;
+    printf("file %u: %lu bytes, %lu pages", f, (unsigned long)file.length, (unsigned long)pages_of(file.length));
+    for (unsigned i = 0; i < file.extent_count; i++) printf("%s from home %lu on", i == 0 ? "" : ",", (unsigned long)file.extents[i].first);
+    printf("%s\n", file.read_only ? ", read-only" : "");
   }
 }
 
-static void tell_journal(const struct kefs_image *image) {
-  const struct layout *layout = image->layout;
-  unsigned long pages = journal_pages(image);
-  int is_open = is_open_gate(sector_at(image, layout->gate));
-  if (layout->journals[0] != 0) printf("journal: %d of two, %lu pages\n", is_open, pages);
+static void tell_journal(struct kefs_image *image) {
+  const struct layout *layout = &image->layout;
+  unsigned long pages = count_of_map(image);
+  int is_open = has_open_gate(image);
+  if (layout->blocks > 0) printf("pool: map %d of two, %lu pages in %lu slots\n", is_open, (unsigned long)image_places(image)->count, (unsigned long)places_of(layout));
+  else if (layout->maps[0] != 0) printf("journal: %d of two, %lu pages\n", is_open, pages);
   else if (is_open) printf("journal: open, %lu pages\n", pages);
   else printf("journal: closed\n");
 }
 
-static void tell_image(const struct kefs_image *image) {
+static void tell_image(struct kefs_image *image) {
   struct stat there;
   if (fstat(image->fd, &there) == 0)
     printf("size: %llu bytes, of which %llu have room on the device\n", (unsigned long long)there.st_size, (unsigned long long)there.st_blocks * 512);
-  if (image->sectors < image->layout->homes || !has_mark(image, image->layout->mark)) return;
-  printf("layout: %lu, %llu pages\n", (unsigned long)image->layout->number, (unsigned long long)home_pages(image));
+  if (image->sectors < least_sectors(&image->layout) || !has_mark(image, image->layout.mark)) return;
+  printf("layout: %lu, %llu pages\n", (unsigned long)image->layout.number, (unsigned long long)home_pages(image));
   tell_files(image);
   tell_journal(image);
 }
@@ -71,12 +77,12 @@ static int tell(const char *path) {
   if (image.fd < 0 || fstat(image.fd, &there) != 0) return failed(path, strerror(errno));
   if (!S_ISREG(there.st_mode)) return failed(path, "it is no regular file");
   image.sectors = (size_t)there.st_size / SECTOR;
-  size_t head = SECTOR * (size_t)LAYOUT_3.homes, length = SECTOR * image.sectors < head ? SECTOR * image.sectors : head;
-  unsigned char *bytes = new_memory(head); /* a mapping of the file would take room on a memory file system */
-  int number = bytes == NULL ? ENOMEM : read_all(image.fd, bytes, length, 0);
-  if (number != KEFS_OK) return failed(path, strerror(number));
-  image.bytes = bytes;
-  image.layout = layout_of(&image);
+  image.bytes = new_memory(mapped_bytes(&image)); /* a mapping of the file would take room on a memory file system */
+  if (image.bytes == NULL) return failed(path, strerror(ENOMEM));
+  int result = read_kind(&image);
+  if (result == KEFS_OK) result = make_rooms(&image);
+  if (result == KEFS_OK) result = copy_head(&image);
+  if (result != KEFS_OK) return failed(path, kefs_errmsg(&image));
   tell_image(&image);
   struct finding finding = check_image(&image);
   if (is_in_use(&image)) return printf("would open: not now\n"), 1;
@@ -90,7 +96,7 @@ static int write_file(kefs_image *image, const struct file *file) {
   static unsigned char page[PAGE];
   for (uint64_t k = 0; k < pages_of(file->length); k++) {
     size_t more = file->length - k * PAGE < PAGE ? (size_t)(file->length - k * PAGE) : PAGE;
-    copy_durable_page(image, file->first_home + (uint32_t)k, page);
+    copy_durable_page(image, home_of_page(file, k), page);
     if (fwrite(page, 1, more, stdout) != more) return failed("standard output", strerror(errno));
   }
   return fflush(stdout) == 0 ? 0 : failed("standard output", strerror(errno));
@@ -108,8 +114,24 @@ static int dump(const char *path, const char *word) {
   return status;
 }
 
+/* Making anew */
+
+static int upgrade(const char *old, const char *new) {
+  kefs_image *image;
+  struct stat there;
+  int result = kefs_open(&image, old, KEFS_RDONLY | KEFS_NOWAIT);
+  if (result != KEFS_OK) return failed(old, kefs_errmsg(NULL));
+  int status = 0;
+  if (image->layout.number == 4) status = failed(old, "it has layout 4 already");
+  else if (fstat(image->fd, &there) != 0) status = failed(old, strerror(errno));
+  else if (kefs_backup(image, new, there.st_mode & 0777) != KEFS_OK) status = failed(new, kefs_errmsg(image));
+  kefs_close(image);
+  return status;
+}
+
 int main(int argc, char **argv) {
   if (argc == 4 && strcmp(argv[1], "dump") == 0) return dump(argv[2], argv[3]);
+  if (argc == 4 && strcmp(argv[1], "upgrade") == 0) return upgrade(argv[2], argv[3]);
   if (argc == 2) return tell(argv[1]);
   return fputs(USAGE, stderr), 2;
 }

@@ -1,5 +1,5 @@
 -- Which pages a batch may bring.
-use Rattle.std.specs.Prelude.{ℕ, ◌≡◌, List, [], slice_get, slice_index_or, Option, Some, IsTrue}
+use Rattle.std.specs.Prelude.{ℕ, ◌+◌, ◌*◌, ◌^◌, ◌<◌, ◌≡◌, List, [], slice_get, slice_index_or, Option, Some, IsTrue}
 use Rattle.vm_types.specs.declared.file.FileInfo.{FileInfo}
 use Rattle.vm_types.specs.declared.file.FilePage.{FilePage}
 
@@ -15,6 +15,18 @@ pub record HasReadOnly (files : ℕ → Option FileInfo) (list : List FilePage) 
   pub page : FilePage
   pub listed : slice_get list place ≡ Some page
   pub file : IsReadOnly files page.file
+
+-- none of the first n pages of the list is listed twice
+abbrev pub AreDistinct : ℕ → List FilePage → Type 0
+AreDistinct n list = (i j : ℕ) (p : FilePage) → i < j → j < n → slice_get list i ≡ Some p → slice_get list j ≡ Some p → ⊥
+
+-- the place of a page in the order by file, then by page
+unfoldable pub place_of : FilePage → ℕ
+place_of p = 2 ^ 32 * p.file + p.page
+
+-- the first n pages of the list stand in that order
+abbrev pub AreRising : ℕ → List FilePage → Type 0
+AreRising n list = (i j : ℕ) (p q : FilePage) → i < j → j < n → slice_get list i ≡ Some p → slice_get list j ≡ Some q → place_of p < place_of q
 
 -- the bytes of page i of the list
 abbrev pub given_page : List (List ℕ) → ℕ → List ℕ

@@ -1,48 +1,48 @@
 //! A batch that is brought a page at a time.
-ghost use Rattle.std.specs.Prelude.{◌≡◌, ◌≤◌, length};
-ghost use Rattle.sync_journal.specs.Layout.{page_limit};
+ghost use Rattle.std.specs.Prelude.{◌≡◌, ◌≤◌, length, vec_capacity};
 
 use std::alloc::{AllocError, Global};
-use sync_journal::PAGE_LIMIT;
 use vm_types::FilePage;
 
 /// Room for a batch, and the pages brought so far.
 #[derive(Drop)]
 pub(crate) struct Batch {
-    pages: [FilePage; PAGE_LIMIT],
+    pages: Vec<FilePage>,
     bytes: Vec<[u8; 4096]>,
-    count: usize,
-    /// More pages were brought than a batch may have.
+    /// How many pages a batch may have.
+    most: usize,
+    /// More pages were brought than that.
     over: bool,
-    ghost room: { length bytes.items ≡ page_limit },
-    ghost long: { length pages ≡ page_limit },
-    ghost within: { count ≤ page_limit },
+    ghost long: { length bytes.items ≡ length pages.items },
+    ghost room: { most ≤ vec_capacity pages },
+    ghost bytes_room: { most ≤ vec_capacity bytes },
 }
 
 impl Batch {
-    pub(crate) fn new(alloc: Global) -> Result<Batch, AllocError> {
+    /// Room for so many pages. It is reserved and not touched: the host gives memory for what a batch brings, a page at a time.
+    pub(crate) fn new(alloc: Global, most: usize) -> Result<Batch, AllocError> {
         Ok(Batch {
-            pages: [FilePage { file: 0, page: 0 }; PAGE_LIMIT],
-            bytes: Vec::from_elem(alloc, [0; 4096], PAGE_LIMIT)?,
-            count: 0,
+            pages: Vec::with_capacity(alloc, most)?,
+            bytes: Vec::with_capacity(alloc, most)?,
+            most,
             over: false,
         })
     }
 
-    /// Adds a page. Past 1,023 it is only noted that there are too many.
+    /// Adds a page. Past the most pages it is only noted that there are too many.
     pub(crate) fn add(&mut self, page: FilePage, bytes: &[u8; 4096]) {
-        if self.count >= PAGE_LIMIT {
+        if self.pages.len() >= self.most {
             self.over = true;
             return;
         }
-        self.pages[self.count] = page;
-        self.bytes[self.count] = *bytes;
-        self.count += 1;
+        self.pages.push_reserved(page);
+        self.bytes.push_reserved(*bytes);
     }
 
     /// Lets go of all pages.
     pub(crate) fn clear(&mut self) {
-        self.count = 0;
+        self.pages.clear();
+        self.bytes.clear();
         self.over = false;
     }
 
@@ -50,12 +50,12 @@ impl Batch {
     pub(crate) fn brought(&self) -> (&[FilePage], &[[u8; 4096]])
         ensures { length result.1.now ≡ length result.0.now }
     {
-        let count = if self.over { 0 } else { self.count };
+        let count = if self.over { 0 } else { self.pages.len() };
         (&self.pages[..count], &self.bytes[..count])
     }
 
     /// Whether a page was brought.
     pub(crate) fn is_begun(&self) -> bool {
-        self.count > 0
+        !self.pages.is_empty()
     }
 }

@@ -4,13 +4,12 @@ ghost use Rattle.std.proofs.Common.{◌∙◌};
 ghost use Rattle.batches.specs.Bringing.{CommitsBatch, RefusesBatch};
 ghost use Rattle.batches.specs.Pages.{HasReadOnly, given_page};
 ghost use Rattle.disk_model.specs.Moments.{AsksOnly};
-ghost use Rattle.sync_journal.specs.Kinds.{IsStoreUsed};
-ghost use Rattle.file_store.specs.Commit.{ArePages};
-ghost use Rattle.file_store.specs.Store.{IsReadyStore, files_of};
+ghost use Rattle.stores.specs.Commit.{ArePages};
+ghost use Rattle.stores.specs.Store.{disk_of, kept_of, files_of, free_of, IsUsedIn, IsReadyStore};
 
 use crate::pages::{BadBatch, check_pages};
 use disk_model::SectorDisk;
-use file_store::FileStore;
+use stores::Store;
 use sync_journal::{PageSource, SourceFault};
 use thiserror::Error;
 use vm_types::FilePage;
@@ -21,7 +20,7 @@ pub enum BatchFault {
     /// The device failed: all of the batch is durable or none.
     #[error("device")]
     Device,
-    /// There is no page or there are over 1,023, one is named twice, or one does not begin inside its file.
+    /// There is no page or there are more than the store takes, one is named twice, or one does not begin inside its file.
     #[error("{}", BadBatch::BadPages)]
     BadPages,
     /// The file of a page may only be read.
@@ -69,16 +68,16 @@ fn fault_of(fault: BadBatch) -> BatchFault
 
 /// Makes pages that a store takes durable all at once.
 fn commit_good<D: SectorDisk>(
-    store: &mut FileStore<D>,
+    store: &mut Store<D>,
     pages: &[FilePage],
     bytes: &[[u8; 4096]],
 ) -> Result<(), BatchFault>
     requires ready { IsReadyStore D.SectorDisk store.old }
-    requires pages { ArePages (files_of store.old) pages.now }
+    requires pages { ArePages (files_of store.old) 1 (free_of store.old) pages.now }
     requires bytes { length bytes.now ≡ length pages.now }
     ensures commits { CommitsBatch D.SectorDisk store.old store.new pages.now (given_page bytes.now) result }
-    ensures asks { AsksOnly D.SectorDisk (IsStoreUsed store.old.journal) store.old.disk store.new.disk }
-    ensures fault { IfErr result (λ fault. (fault ≡ BatchFault.Device) × (D.failures store.old.disk < D.failures store.new.disk)) }
+    ensures asks { AsksOnly D.SectorDisk (IsUsedIn (kept_of store.old)) (disk_of store.old) (disk_of store.new) }
+    ensures fault { IfErr result (λ fault. (fault ≡ BatchFault.Device) × (D.failures (disk_of store.old) < D.failures (disk_of store.new))) }
 {
     let mut source = GivenPages { pages: bytes };
     match store.commit(pages, &mut source) {
@@ -87,7 +86,8 @@ fn commit_good<D: SectorDisk>(
     }
 }
 
-/// Makes pages durable all at once: page `pages[i]` becomes `bytes[i]`, with zeros past its file's end.
+/// Makes pages durable all at once: page `pages[i]` becomes `bytes[i]`, with zeros past its file's end. A store takes as many as
+/// `free_pages` says: 1,023 of layouts 2 and 3, of layout 4 as many as are free.
 ///
 /// # Errors
 ///
@@ -95,17 +95,17 @@ fn commit_good<D: SectorDisk>(
 /// device failed: every image that a stop might have left stands for the files before or for those after, and the store
 /// has to be opened again.
 pub fn commit_pages<D: SectorDisk>(
-    store: &mut FileStore<D>,
+    store: &mut Store<D>,
     pages: &[FilePage],
     bytes: &[[u8; 4096]],
 ) -> Result<(), BatchFault>
     requires ready { IsReadyStore D.SectorDisk store.old }
     requires bytes { length bytes.now ≡ length pages.now }
     ensures commits { CommitsBatch D.SectorDisk store.old store.new pages.now (given_page bytes.now) result }
-    // Of the device no sector was asked for but those of the gate, the map and the body of its journal, and of the homes of the commit before.
-    ensures asks { AsksOnly D.SectorDisk (IsStoreUsed store.old.journal) store.old.disk store.new.disk }
+    // Of the device no sector was asked for but those that a commit uses.
+    ensures asks { AsksOnly D.SectorDisk (IsUsedIn (kept_of store.old)) (disk_of store.old) (disk_of store.new) }
     // A batch is refused exactly where it is bad.
-    ensures taken { OnOk result (ArePages (files_of store.old) pages.now) }
+    ensures taken { OnOk result (ArePages (files_of store.old) 1 (free_of store.old) pages.now) }
     ensures written { OnOk result (HasReadOnly (files_of store.old) pages.now → ⊥) }
     ensures refused { IfErr result (RefusesBatch D.SectorDisk store.old store.new pages.now) }
 {

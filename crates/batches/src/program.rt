@@ -3,10 +3,10 @@ ghost use Rattle.std.specs.Prelude.{◌≡◌, ◌≤◌, IfErr};
 
 use crate::serving::{ServeEnd, serve};
 use disk_model::{DiskFault, FileDisk, Unknown};
-use file_store::{FileStore, OpenFault};
 use host_files::{Opening, held_places, open_alone};
 use std::fs::{File, Files};
 use std::io::{BufReader, Read, Write};
+use stores::{OpenFault, Store};
 use thiserror::Error;
 
 /// Why the program gives up.
@@ -66,7 +66,7 @@ fn run<R: Files<File = File> + AllocGlobal, I: Read + Drop, O: Write>(
         return Err(ProgramFault::CannotOpen);
     };
     let disk = synced_disk(file)?;
-    let mut store = match FileStore::open(disk) {
+    let mut store = match Store::open(rt.alloc(), disk) {
         Ok(store) => store,
         Err((fault, _)) => return Err(unopened(fault)),
     };
@@ -98,5 +98,6 @@ fn unopened(fault: OpenFault) -> ProgramFault {
         OpenFault::Device => ProgramFault::Device,
         OpenFault::BadLayout => ProgramFault::BadLayout,
         OpenFault::BadJournal => ProgramFault::BadJournal,
+        OpenFault::Memory => ProgramFault::OutOfMemory,
     }
 }

@@ -1,15 +1,15 @@
 //! Requests carried out one after the other.
 ghost use Rattle.std.specs.Prelude.{◌≢◌, OnOk};
-ghost use Rattle.file_store.specs.Store.{IsReadyStore};
+ghost use Rattle.stores.specs.Store.{IsReadyStore};
 
 use crate::batch::Batch;
 use crate::commits::{BatchFault, commit_pages};
 use crate::pages::check_page;
 use crate::requests::{Request, next_request};
 use disk_model::{DiskFault, SectorDisk};
-use file_store::FileStore;
 use std::alloc::{AllocError, Global};
 use std::io::{Read, Write};
+use stores::Store;
 use thiserror::Error;
 use vm_types::FilePage;
 
@@ -33,20 +33,25 @@ pub enum ServeEnd {
     Output,
 }
 
-/// Carries out requests until the input ends or something fails: see docs/FORMATS.md for their forms and replies.
+/// Carries out requests until the input ends or something fails: see docs/FORMATS.md for their forms and replies. A batch has room for as
+/// many pages as the store always takes: for so many its memory is reserved, and the store makes room first where it has less. Nothing is
+/// allocated after that.
 ///
 /// # Errors
 ///
 /// Where there is no room for a batch.
 pub fn serve<D: SectorDisk, I: Read, O: Write>(
     alloc: Global,
-    store: &mut FileStore<D>,
+    store: &mut Store<D>,
     input: &mut I,
     output: &mut O,
 ) -> Result<ServeEnd, AllocError>
     requires { IsReadyStore D.SectorDisk store.old }
 {
-    let mut batch = Batch::new(alloc)?;
+    let mut batch = Batch::new(alloc, store.always_free_pages())?;
+    if store.make_room().is_err() {
+        return Ok(ServeEnd::Device);
+    }
     for _ in 0..u64::MAX {
         if let Err(end) = serve_request(store, &mut batch, input, output) {
             return Ok(end);
@@ -57,7 +62,7 @@ pub fn serve<D: SectorDisk, I: Read, O: Write>(
 
 /// Carries out one request.
 fn serve_request<D: SectorDisk, I: Read, O: Write>(
-    store: &mut FileStore<D>,
+    store: &mut Store<D>,
     batch: &mut Batch,
     input: &mut I,
     output: &mut O,
@@ -112,7 +117,7 @@ fn take_page<I: Read>(batch: &mut Batch, page: FilePage, input: &mut I) -> Resul
 
 /// Makes the batch durable, and begins the next one.
 fn commit_batch<D: SectorDisk, O: Write>(
-    store: &mut FileStore<D>,
+    store: &mut Store<D>,
     batch: &mut Batch,
     output: &mut O,
 ) -> Result<(), ServeEnd>
@@ -130,7 +135,7 @@ fn commit_batch<D: SectorDisk, O: Write>(
 
 /// Replies with a page of the store. What the batch brings is not seen before it is durable.
 fn show_page<D: SectorDisk, O: Write>(
-    store: &mut FileStore<D>,
+    store: &mut Store<D>,
     page: FilePage,
     output: &mut O,
 ) -> Result<(), ServeEnd>

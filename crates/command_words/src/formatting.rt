@@ -16,7 +16,7 @@ use sync_journal::Journals;
 pub enum FormatWords<'a> {
     /// `new IMAGE SPEC...`, `new3 IMAGE SPEC...` or `new4 [--pool PAGES] IMAGE SPEC...`
     New(NewWords<'a>),
-    /// `upgrade OLD NEW` or `upgrade3 OLD NEW`
+    /// `upgrade OLD NEW`, `upgrade3 OLD NEW` or `upgrade4 [--pool PAGES] OLD NEW`
     Upgrade(UpgradeWords<'a>),
 }
 
@@ -32,54 +32,69 @@ pub struct NewWords<'a> {
     pub specs: Vec<&'a str>,
 }
 
-/// The words of `pagefmt upgrade OLD NEW`, which makes a store of one journal, or of `pagefmt upgrade3 OLD NEW`, which makes one of two.
+/// The words of `pagefmt upgrade OLD NEW`, which makes a store of one journal, of `pagefmt upgrade3 OLD NEW`, which makes one of two in turn, or of
+/// `pagefmt upgrade4 [--pool PAGES] OLD NEW`, which makes one with a pool of so many pages at least.
 #[derive(Clone, Copy)]
 pub struct UpgradeWords<'a> {
-    /// Those of the new store, which say its layout.
-    pub journals: Journals,
+    /// The new store, which says which layout OLD has to have.
+    pub store: NewStore,
     /// The path of the image that is read.
     pub old: &'a str,
     /// The path of the image that is made.
     pub new: &'a str,
 }
 
+/// What keeps the pages of a store that is to be made. How large a pool is, other words say.
+#[derive(Clone, Copy)]
+enum Keeping {
+    Journals(Journals),
+    Pool,
+}
+
 /// What `pagefmt` is to make.
 #[derive(Clone, Copy)]
 enum Making {
-    New(Journals),
-    NewPool,
-    Upgrade(Journals),
+    New(Keeping),
+    Upgrade(Keeping),
 }
 
 /// What `pagefmt` is to make after that word, if it is one that it takes.
 fn making_of(word: &str) -> Option<Making> {
     if word == "new" {
-        Some(Making::New(Journals::Single))
+        Some(Making::New(Keeping::Journals(Journals::Single)))
     } else if word == "new3" {
-        Some(Making::New(Journals::Paired))
+        Some(Making::New(Keeping::Journals(Journals::Paired)))
     } else if word == "new4" {
-        Some(Making::NewPool)
+        Some(Making::New(Keeping::Pool))
     } else if word == "upgrade" {
-        Some(Making::Upgrade(Journals::Single))
+        Some(Making::Upgrade(Keeping::Journals(Journals::Single)))
     } else if word == "upgrade3" {
-        Some(Making::Upgrade(Journals::Paired))
+        Some(Making::Upgrade(Keeping::Journals(Journals::Paired)))
+    } else if word == "upgrade4" {
+        Some(Making::Upgrade(Keeping::Pool))
     } else {
         None
     }
 }
 
+/// How many pages a pool is to have.
+const POOL: Word = ("pool", Taken::Named);
+
 const NEW_WORDS: [Word; 2] = [("IMAGE", Taken::Needed), SPECS];
 
-const POOL_WORDS: [Word; 3] = [("pool", Taken::Named), ("IMAGE", Taken::Needed), SPECS];
+const NEW_POOL_WORDS: [Word; 3] = [POOL, ("IMAGE", Taken::Needed), SPECS];
 
 const UPGRADE_WORDS: [Word; 2] = [("OLD", Taken::Needed), ("NEW", Taken::Needed)];
 
-const FORMS: [(&str, &[Word]); 5] = [
+const UPGRADE_POOL_WORDS: [Word; 3] = [POOL, ("OLD", Taken::Needed), ("NEW", Taken::Needed)];
+
+const FORMS: [(&str, &[Word]); 6] = [
     ("new", &NEW_WORDS),
     ("new3", &NEW_WORDS),
-    ("new4", &POOL_WORDS),
+    ("new4", &NEW_POOL_WORDS),
     ("upgrade", &UPGRADE_WORDS),
     ("upgrade3", &UPGRADE_WORDS),
+    ("upgrade4", &UPGRADE_POOL_WORDS),
 ];
 
 /// Reads the words of `pagefmt`. The specs are not looked at yet.
@@ -95,12 +110,8 @@ pub fn format_words<'a>(alloc: Global, words: &'a [String]) -> Result<FormatWord
         return Err(WordsFault::Usage);
     };
     match making_of(word) {
-        Some(Making::New(journals)) => new_words(alloc, NewStore::Journals(journals), found),
-        Some(Making::NewPool) => {
-            let blocks = blocks_of(found.get_str("pool"))?;
-            new_words(alloc, NewStore::Pool(blocks), found)
-        }
-        Some(Making::Upgrade(journals)) => upgrade_words(journals, found),
+        Some(Making::New(keeping)) => new_words(alloc, store_of(keeping, found)?, found),
+        Some(Making::Upgrade(keeping)) => upgrade_words(store_of(keeping, found)?, found),
         None => Err(WordsFault::Usage),
     }
 }
@@ -112,6 +123,19 @@ fn format_command<'a>(alloc: Global) -> Result<Command<'a>, AllocError> {
         command = command.subcommand(command_of(alloc, name, words)?)?;
     }
     Ok(command)
+}
+
+/// The store, which has a pool of the size that its words ask for, where it has one.
+fn store_of(keeping: Keeping, matches: &ArgMatches<'_>) -> Result<NewStore, WordsFault>
+    ensures { IfOk result IsSizedNew }
+{
+    match keeping {
+        Keeping::Journals(journals) => Ok(NewStore::Journals(journals)),
+        Keeping::Pool => {
+            let blocks = blocks_of(matches.get_str("pool"))?;
+            Ok(NewStore::Pool(blocks))
+        }
+    }
 }
 
 fn new_words<'a>(
@@ -132,12 +156,13 @@ fn new_words<'a>(
 }
 
 fn upgrade_words<'a>(
-    journals: Journals,
+    store: NewStore,
     matches: &ArgMatches<'a>,
 ) -> Result<FormatWords<'a>, WordsFault>
+    requires { IsSizedNew store }
     ensures { IfOk result NamesStore }
 {
     let old = word_of(matches, "OLD")?;
     let new = word_of(matches, "NEW")?;
-    Ok(FormatWords::Upgrade(UpgradeWords { journals, old, new }))
+    Ok(FormatWords::Upgrade(UpgradeWords { store, old, new }))
 }

@@ -1,7 +1,7 @@
 -- What an export returns.
 use Rattle.std.specs.Prelude.{ℕ, ◌≡◌, ◌≢◌, ◌≤◌}
 use Rattle.sync_plans.specs.declared.requests.Refusal.{Refusal}
-use Rattle.sync_plans.specs.declared.requests.Refusal.TheVariants.{Device, BadLayout, BadJournal, BadPages, ReadOnly}
+use Rattle.sync_plans.specs.declared.requests.Refusal.TheVariants.{Device, BadLayout, BadJournal, BadPages, ReadOnly, Memory}
 
 abbrev pub done : ℕ
 done = 0
@@ -24,6 +24,9 @@ read_only = 5
 abbrev pub no_room : ℕ
 no_room = 6
 
+abbrev pub no_memory : ℕ
+no_memory = 7
+
 -- the states of a handle
 abbrev pub closed : ℕ
 closed = 0
@@ -37,7 +40,7 @@ pending = 2
 -- A result tells a refusal:
 pub record TellsRefusal (refusal : Refusal) (result : ℕ) : Type 0 where
   -- it is one of those of a request in turn that was not done,
-  pub answers : result ≤ 6
+  pub answers : result ≤ 7
   pub done : result ≢ done
   pub turn : result ≢ out_of_turn
   -- and each of them comes for its refusal alone.
@@ -46,3 +49,4 @@ pub record TellsRefusal (refusal : Refusal) (result : ℕ) : Type 0 where
   pub pages : result ≡ bad_pages → refusal ≡ BadPages
   pub read_only : result ≡ read_only → refusal ≡ ReadOnly
   pub room : result ≡ no_room → refusal ≡ Device
+  pub memory : result ≡ no_memory → refusal ≡ Memory

@@ -12,18 +12,21 @@ pub(crate) const TURN: u32 = 1;
 /// The image has no layout of a store.
 pub(crate) const BAD_LAYOUT: u32 = 2;
 
-/// The journal of the image is open with a map that no commit writes.
+/// The journal that the gate of an image of layout 2 or 3 names has a map that no commit writes.
 pub(crate) const BAD_JOURNAL: u32 = 3;
 
-/// There is no page or there are over 1,023, one is named twice, one does not begin inside its file, or there are not as
+/// There is no page or there are more than the store takes, one is named twice, one does not begin inside its file, or there are not as
 /// many pages as bytes for them. Of `famsync_length`: the image has no such file.
 pub(crate) const BAD_PAGES: u32 = 4;
 
 /// The file of a page may only be read.
 pub(crate) const READ_ONLY: u32 = 5;
 
-/// The plan has over 16,384 calls, of which its list then holds the first.
+/// The plan has more calls than the shortest of the lists has places, of which its list then holds as many.
 pub(crate) const NO_ROOM: u32 = 6;
+
+/// There was too little memory for what a store of layout 4 keeps there while it is open.
+pub(crate) const NO_MEMORY: u32 = 7;
 
 /// The image has to be opened.
 pub(crate) const CLOSED: u32 = 0;
@@ -44,5 +47,6 @@ pub(crate) fn number(refusal: Refusal) -> u32
         Refusal::BadJournal => BAD_JOURNAL,
         Refusal::BadPages => BAD_PAGES,
         Refusal::ReadOnly => READ_ONLY,
+        Refusal::Memory => NO_MEMORY,
     }
 }

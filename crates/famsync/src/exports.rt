@@ -2,56 +2,66 @@
 //! `famsync_open` or `famsync_commit` the first `used` of `calls`, the plan, have to be made of the file, in their order, and
 //! then `famsync_done` is called, or `famsync_failed` where one of them failed. After any other result there is nothing to
 //! do. `Call` of `sync_plans` says what each call is: some name a page of the commit, which stays as it is until they are
-//! made. `scratch_calls` and `scratch_rows` are room to work in: nothing is said of what they hold.
+//! made. `scratch_calls` and `scratch_rows` are room to work in: nothing is said of what they hold. A plan has no more calls than the shortest of
+//! these two, `calls` and `rows` has places.
+//!
+//! An image of layout 4 takes memory while it is asked something of: what it says of the slots of its pool, and its directory. The program gives it.
 //!
 //! `StopLeaves` in the `Plans` of `sync_plans` says what a stop leaves of an image. The numbers that are returned stand in `codes`.
-ghost use Rattle.std.specs.Prelude.{◌≡◌, ◌≢◌, ◌≤◌, ◌<◌, ◌↔◌, ℕ, List, [], Option, Some, None, length};
+ghost use Rattle.std.specs.Prelude.{◌≡◌, ◌≢◌, ◌≤◌, ◌<◌, ◌↔◌, false, ℕ, List, [], Option, Some, None, length};
 ghost use Rattle.vm_types.specs.declared.file.FileInfo.{FileInfo};
 ghost use Rattle.disk_model.specs.Stop.{Image};
-ghost use Rattle.file_store.specs.Commit.{ArePages, Changes, StandsForEither};
-ghost use Rattle.file_store.specs.Standing.{IsPageOf, StandsFor, IsBadLayout, file_info};
-ghost use Rattle.famsync.specs.Codes.{done, out_of_turn, bad_layout, bad_journal, bad_pages, read_only, no_room, closed, ready, pending};
+ghost use Rattle.file_store.specs.Commit.{Changes};
+ghost use Rattle.file_store.specs.Standing.{IsPageOf};
+ghost use Rattle.pool_store.specs.Resume.{HasPoolHead};
+ghost use Rattle.stores.specs.Commit.{ArePages};
+ghost use Rattle.stores.specs.Images.{is_pool, file_info, free_pages, IsBadLayout, IsClosed, StandsFor, StandsForEither};
+ghost use Rattle.famsync.specs.Codes.{done, out_of_turn, bad_layout, bad_journal, bad_pages, read_only, no_room, no_memory, closed, ready, pending};
 ghost use Rattle.sync_plans.specs.Pages.{lent_page};
-ghost use Rattle.sync_plans.specs.Plans.{row, AreCalls, AreSources, image_after, IsLeftUnsynced, StopLeaves};
-ghost use Rattle.sync_plans.specs.Requests.{IsStore, HasBadJournal, IsClosed, KeepsOutside, AreWritable, AreReadOnly};
+ghost use Rattle.sync_plans.specs.Plans.{row, room_of, AreCalls, AreSources, image_after, IsLeftUnsynced, StopLeaves};
+ghost use Rattle.sync_plans.specs.Requests.{IsStore, HasBadJournal, KeepsOutside, AreWritable, AreReadOnly};
 
 use crate::codes::{BAD_PAGES, CLOSED, OK, PENDING, READY, TURN, number};
 use crate::handle::Handle;
+use std::alloc::Global;
 use sync_plans::{
-    Call, PageBytes, PageUpdates, ROOM, Scratch, file_facts, plan_commit, plan_open, read_page,
+    Call, PageBytes, PageUpdates, Scratch, file_facts, plan_commit, plan_open, read_page,
 };
 use vm_types::FilePage;
 
 /// Plans that the image is opened. It must hold what the file holds, all of it synced. Returns 0, and the handle is pending then; 2 or 3
-/// where the image is no store or its journal is bad, 6 where 16,384 calls do not suffice: then the plan is empty and the handle closed.
+/// where the image is no store or its journal is bad, 6 where there is no room for the plan, 7 where there is no memory: then the plan is empty and the
+/// handle closed.
 #[unsafe(no_mangle)]
 pub extern "C" fn famsync_open(
     handle: &mut Handle,
+    alloc: Global,
     image: &[[u8; 512]],
-    scratch_calls: &mut [Call; ROOM],
-    scratch_rows: &mut [[u8; 512]; ROOM],
+    scratch_calls: &mut [Call],
+    scratch_rows: &mut [[u8; 512]],
     used: &mut usize,
-    calls: &mut [Call; ROOM],
-    rows: &mut [[u8; 512]; ROOM],
+    calls: &mut [Call],
+    rows: &mut [[u8; 512]],
 ) -> u32
-    ensures few { used.new ≤ 16384 }
+    ensures few { used.new ≤ room_of scratch_calls.old scratch_rows.old calls.old rows.old }
     ensures all { AreCalls (length image.now) calls.new used.new }
     ensures sources { AreSources (lent_page []) calls.new used.new }
     ensures synced { (n : ℕ) → IsLeftUnsynced calls.new used.new n → ⊥ }
     ensures any_moment { (files : ℕ → Option FileInfo) (pages : ℕ → ℕ → List ℕ) → StandsFor (length image.now) files pages (row image.now)
         → (left : Image) → StopLeaves calls.new rows.new (lent_page []) (row image.now) used.new left → StandsFor (length image.now) files pages left }
-    ensures closed { result ≡ done → IsClosed (image_after calls.new rows.new (lent_page []) (row image.now) used.new) }
+    ensures closed { result ≡ done → is_pool (row image.now) ≡ false → IsClosed (length image.now) (image_after calls.new rows.new (lent_page []) (row image.now) used.new) }
     ensures outside { KeepsOutside (length image.now) (row image.now) (image_after calls.new rows.new (lent_page []) (row image.now) used.new) }
     ensures state { result ≡ done → handle.new.state ≡ pending }
     ensures nothing { result ≢ done → (used.new ≡ 0) × (handle.new.state ≡ closed) }
     ensures store { result ≡ done → IsStore (length image.now) (row image.now) }
     ensures layout { result ≡ bad_layout → IsBadLayout (length image.now) (row image.now) }
     ensures journal { result ≡ bad_journal → HasBadJournal (length image.now) (row image.now) }
-    ensures room { result ≡ no_room → AreCalls (length image.now) calls.new 16384 }
+    ensures room { result ≡ no_room → AreCalls (length image.now) calls.new (room_of scratch_calls.old scratch_rows.old calls.old rows.old) }
     ensures turn { result ≢ out_of_turn }
     ensures pages { result ≢ bad_pages }
     ensures read_only { result ≢ read_only }
-    ensures answers { result ≤ 6 }
+    ensures memory { result ≡ no_memory → HasPoolHead (length image.now) (row image.now) }
+    ensures answers { result ≤ 7 }
 {
     *used = 0;
     handle.state = CLOSED;
@@ -59,7 +69,7 @@ pub extern "C" fn famsync_open(
         calls: scratch_calls,
         rows: scratch_rows,
     };
-    match plan_open(image, scratch, calls, rows) {
+    match plan_open(alloc, image, scratch, calls, rows) {
         Ok(count) => {
             *used = count;
             handle.state = PENDING;
@@ -73,21 +83,24 @@ pub extern "C" fn famsync_open(
 }
 
 /// Plans that these pages become durable all at once: page `pages[i]` becomes the bytes at `bytes[i]`, with zeros past its
-/// file's end. There are 1 to 1,023 pages, none twice, each of which begins inside its file. Returns 0, and the handle is pending then; 1 exactly
-/// where the handle is not ready; 2 to 6 as in `codes`. After another result than 0 the plan is empty and the handle as it was.
+/// file's end. There is at least one page, and there are no more than the store takes: 1,023 of layouts 2 and 3, of layout 4 as many as it has free slots;
+/// none comes twice, and each begins inside its file. They best come in rising order, by file and then by page: the time that a plan takes then
+/// grows as the plan does. Returns 0, and the handle is pending then; 1 exactly where the handle is not ready; 2 to 7 as in `codes`. After another
+/// result than 0 the plan is empty and the handle as it was.
 #[unsafe(no_mangle)]
 pub extern "C" fn famsync_commit(
     handle: &mut Handle,
+    alloc: Global,
     image: &[[u8; 512]],
-    scratch_calls: &mut [Call; ROOM],
-    scratch_rows: &mut [[u8; 512]; ROOM],
+    scratch_calls: &mut [Call],
+    scratch_rows: &mut [[u8; 512]],
     used: &mut usize,
-    calls: &mut [Call; ROOM],
-    rows: &mut [[u8; 512]; ROOM],
+    calls: &mut [Call],
+    rows: &mut [[u8; 512]],
     pages: &[FilePage],
     bytes: &[PageBytes<'_>],
 ) -> u32
-    ensures few { used.new ≤ 16384 }
+    ensures few { used.new ≤ room_of scratch_calls.old scratch_rows.old calls.old rows.old }
     ensures all { AreCalls (length image.now) calls.new used.new }
     ensures sources { AreSources (lent_page bytes.now) calls.new used.new }
     ensures synced { (n : ℕ) → IsLeftUnsynced calls.new used.new n → ⊥ }
@@ -101,14 +114,15 @@ pub extern "C" fn famsync_commit(
     ensures state { result ≡ done → (handle.old.state ≡ ready) × (handle.new.state ≡ pending) }
     ensures nothing { result ≢ done → (used.new ≡ 0) × (handle.new ≡ handle.old) }
     ensures store { result ≡ done → IsStore (length image.now) (row image.now) }
-    ensures writable { result ≡ done → AreWritable (row image.now) pages.now × (length bytes.now ≡ length pages.now) }
+    ensures writable { result ≡ done → AreWritable (length image.now) (row image.now) pages.now × (length bytes.now ≡ length pages.now) }
     ensures turn { result ≡ out_of_turn ↔ handle.old.state ≢ ready }
     ensures layout { result ≡ bad_layout → IsBadLayout (length image.now) (row image.now) }
     ensures journal { result ≡ bad_journal → HasBadJournal (length image.now) (row image.now) }
-    ensures pages { result ≡ bad_pages → length bytes.now ≡ length pages.now → ArePages (file_info (row image.now)) pages.now → ⊥ }
-    ensures read_only { result ≡ read_only → AreReadOnly (row image.now) pages.now }
-    ensures room { result ≡ no_room → AreCalls (length image.now) calls.new 16384 }
-    ensures answers { result ≤ 6 }
+    ensures pages { result ≡ bad_pages → length bytes.now ≡ length pages.now → ArePages (file_info (length image.now) (row image.now)) 1 (free_pages (length image.now) (row image.now)) pages.now → ⊥ }
+    ensures read_only { result ≡ read_only → AreReadOnly (length image.now) (row image.now) pages.now }
+    ensures room { result ≡ no_room → AreCalls (length image.now) calls.new (room_of scratch_calls.old scratch_rows.old calls.old rows.old) }
+    ensures memory { result ≡ no_memory → HasPoolHead (length image.now) (row image.now) }
+    ensures answers { result ≤ 7 }
 {
     *used = 0;
     if handle.state != READY {
@@ -121,7 +135,14 @@ pub extern "C" fn famsync_commit(
         calls: scratch_calls,
         rows: scratch_rows,
     };
-    let planned = plan_commit(image, scratch, calls, rows, PageUpdates { pages, bytes });
+    let planned = plan_commit(
+        alloc,
+        image,
+        scratch,
+        calls,
+        rows,
+        PageUpdates { pages, bytes },
+    );
     match planned {
         Ok(count) => {
             *used = count;
@@ -135,14 +156,15 @@ pub extern "C" fn famsync_commit(
     }
 }
 
-/// Reads a page that begins inside its file: the file's bytes, and zeros past its end. Returns 0; 1 exactly where the handle is not ready; 2, 3
-/// and 6 as an opening does; 4 where the page does not begin inside its file, or there is no such file.
+/// Reads a page that begins inside its file: the file's bytes, and zeros past its end. Returns 0; 1 exactly where the handle is not ready; 2, 3,
+/// 6 and 7 as an opening does; 4 where the page does not begin inside its file, or there is no such file.
 #[unsafe(no_mangle)]
 pub extern "C" fn famsync_read(
     handle: &Handle,
+    alloc: Global,
     image: &[[u8; 512]],
-    scratch_calls: &mut [Call; ROOM],
-    scratch_rows: &mut [[u8; 512]; ROOM],
+    scratch_calls: &mut [Call],
+    scratch_rows: &mut [[u8; 512]],
     file: u8,
     page: u32,
     to: &mut [u8; 4096],
@@ -150,13 +172,14 @@ pub extern "C" fn famsync_read(
     ensures page { result ≡ done → (files : ℕ → Option FileInfo) (pages : ℕ → ℕ → List ℕ) → StandsFor (length image.now) files pages (row image.now)
         → IsPageOf files file page → to.new ≡ pages file page }
     ensures store { result ≡ done → IsStore (length image.now) (row image.now) }
-    ensures inside { result ≡ done → IsPageOf (file_info (row image.now)) file page }
+    ensures inside { result ≡ done → IsPageOf (file_info (length image.now) (row image.now)) file page }
     ensures turn { result ≡ out_of_turn ↔ handle.now.state ≢ ready }
     ensures layout { result ≡ bad_layout → IsBadLayout (length image.now) (row image.now) }
     ensures journal { result ≡ bad_journal → HasBadJournal (length image.now) (row image.now) }
-    ensures pages { result ≡ bad_pages → IsPageOf (file_info (row image.now)) file page → ⊥ }
+    ensures pages { result ≡ bad_pages → IsPageOf (file_info (length image.now) (row image.now)) file page → ⊥ }
     ensures read_only { result ≢ read_only }
-    ensures answers { result ≤ 6 }
+    ensures memory { result ≡ no_memory → HasPoolHead (length image.now) (row image.now) }
+    ensures answers { result ≤ 7 }
 {
     if handle.state != READY {
         return TURN;
@@ -165,7 +188,7 @@ pub extern "C" fn famsync_read(
         calls: scratch_calls,
         rows: scratch_rows,
     };
-    match read_page(image, scratch, FilePage { file, page }, to) {
+    match read_page(alloc, image, scratch, FilePage { file, page }, to) {
         Ok(()) => OK,
         Err(refusal) => number(refusal),
     }
@@ -175,20 +198,22 @@ pub extern "C" fn famsync_read(
 #[unsafe(no_mangle)]
 pub extern "C" fn famsync_length(
     handle: &Handle,
+    alloc: Global,
     image: &[[u8; 512]],
-    scratch_calls: &mut [Call; ROOM],
-    scratch_rows: &mut [[u8; 512]; ROOM],
+    scratch_calls: &mut [Call],
+    scratch_rows: &mut [[u8; 512]],
     file: u8,
     to: &mut u32,
 ) -> u32
-    ensures length { result ≡ done → (info : FileInfo) × (file_info (row image.now) file ≡ Some info) × (to.new ≡ info.length) }
+    ensures length { result ≡ done → (info : FileInfo) × (file_info (length image.now) (row image.now) file ≡ Some info) × (to.new ≡ info.length) }
     ensures store { result ≡ done → IsStore (length image.now) (row image.now) }
     ensures turn { result ≡ out_of_turn ↔ handle.now.state ≢ ready }
     ensures layout { result ≡ bad_layout → IsBadLayout (length image.now) (row image.now) }
     ensures journal { result ≡ bad_journal → HasBadJournal (length image.now) (row image.now) }
-    ensures pages { result ≡ bad_pages → file_info (row image.now) file ≡ None }
+    ensures pages { result ≡ bad_pages → file_info (length image.now) (row image.now) file ≡ None }
     ensures read_only { result ≢ read_only }
-    ensures answers { result ≤ 6 }
+    ensures memory { result ≡ no_memory → HasPoolHead (length image.now) (row image.now) }
+    ensures answers { result ≤ 7 }
 {
     if handle.state != READY {
         return TURN;
@@ -197,7 +222,7 @@ pub extern "C" fn famsync_length(
         calls: scratch_calls,
         rows: scratch_rows,
     };
-    match file_facts(image, scratch, file) {
+    match file_facts(alloc, image, scratch, file) {
         Ok(Some(info)) => {
             *to = info.length;
             OK

@@ -22,7 +22,7 @@ pub(crate) struct BadDirectory;
 
 /// A file's place and facts.
 #[derive(Clone, Copy, Debug, PartialEq, Eq)]
-pub(crate) struct Entry {
+pub struct Entry {
     pub first: u32,
     pub info: FileInfo,
 }

@@ -45,9 +45,11 @@ mod trimmed;
 mod upgrading;
 mod version;
 
+pub use directory::Entry;
 pub use faults::{FormatFault, OpenFault, UpgradeFault};
 pub use formatting::format;
 pub use layout::{DIRECTORY_SECTOR, KIND_SECTOR, MARK_SECTOR, TURN_DIRECTORY};
+pub use old_store::OldStore;
 pub use opening::stops_in_a_row;
 pub use pages::trim;
 pub use sources::{FileSource, image_bytes, pages_of};

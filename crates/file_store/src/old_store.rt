@@ -4,6 +4,7 @@ ghost use Rattle.disk_model.specs.Stop.{Names, NamesOnce};
 ghost use Rattle.sync_journal.specs.Layout.{sizes_before, home_count_in, IsPageSector};
 ghost use Rattle.sync_journal.specs.Standing.{standing_in};
 ghost use Rattle.file_store.specs.Opened.{LooksAt, IsOldFound};
+ghost use Rattle.file_store.specs.Store.{entry_of};
 ghost use Rattle.file_store.specs.Standing.{IsBadOldLayout, IsBadOldJournal, page_standing_in};
 ghost use Rattle.file_store.specs.Upgrade.{IsOldStore, IsOldHead, old_place};
 ghost use Rattle.file_store.specs.Upgraded.{ReadsOldPage};
@@ -18,11 +19,11 @@ use sync_journal::{Journals, OldJournal};
 
 /// A store of layout 1, or of layout 2 where one of layout 3 is made. It holds no device: each call takes it.
 #[derive(Debug, Drop)]
-pub(crate) struct OldStore {
-    pub directory: Directory,
+pub struct OldStore {
+    pub(crate) directory: Directory,
     /// The sector of the directory.
-    pub sector: [u8; SECTOR_BYTES],
-    pub journal: OldJournal,
+    pub(crate) sector: [u8; SECTOR_BYTES],
+    pub(crate) journal: OldJournal,
 }
 
 impl OldStore {
@@ -32,10 +33,7 @@ impl OldStore {
     ///
     /// `BadLayout` and `BadJournal` come exactly where the image is so, unless the device fails first. `Device` comes
     /// exactly where the device failed.
-    pub(crate) fn find<D: SectorDisk>(
-        disk: &mut D,
-        journals: Journals,
-    ) -> Result<OldStore, OpenFault>
+    pub fn find<D: SectorDisk>(disk: &mut D, journals: Journals) -> Result<OldStore, OpenFault>
         ensures looks { LooksAt D.SectorDisk disk.old disk.new result }
         ensures once { D.keeps_model disk.new → NamesOnce (IsOldHead journals (D.content disk.old)) (D.asked disk.old) (D.asked disk.new) }
         ensures found { IfOk result (λ store. IsOldFound D.SectorDisk journals disk.old disk.new store) }
@@ -53,12 +51,19 @@ impl OldStore {
         })
     }
 
+    /// The directory's entry of file `f`, or none where the store has no such file.
+    pub fn entry(&self, f: usize) -> Option<Entry>
+        ensures { result ≡ entry_of self.now.directory f }
+    {
+        self.directory.entry(f)
+    }
+
     /// Reads page `k` of a file: the file's bytes, and zeros past its end.
     ///
     /// # Errors
     ///
     /// `Device`, only where the device failed. Nothing is then said of `to`.
-    pub(crate) fn read_page<D: SectorDisk>(
+    pub fn read_page<D: SectorDisk>(
         &self,
         disk: &mut D,
         entry: Entry,

@@ -9,9 +9,6 @@ use vm_types::{
 /// The most processes.
 const PROCESSES: u64 = 64;
 
-/// The most touched pages that one msync takes.
-const MSYNC_PAGES: usize = 1023;
-
 /// The first user page.
 const USER_START: u64 = 16;
 
@@ -37,6 +34,8 @@ fn process_of(command: Command) -> Option<u64> {
 pub struct Flat {
     /// How many levels of tables address spaces have.
     mode: Mode,
+    /// The most touched pages that one msync takes.
+    most: usize,
     /// The numbers of the processes that live.
     live: Vec<u64>,
     pages: Vec<Page>,
@@ -45,10 +44,16 @@ pub struct Flat {
 }
 
 impl Flat {
-    /// No process, address spaces of that mode, and files of so many zeros.
-    pub fn new(alloc: Global, mode: Mode, lengths: &[u32]) -> Result<Flat, AllocError> {
+    /// No process, address spaces of that mode, files of so many zeros, and msyncs that take so many pages at most.
+    pub fn new(
+        alloc: Global,
+        mode: Mode,
+        most: usize,
+        lengths: &[u32],
+    ) -> Result<Flat, AllocError> {
         let mut flat = Flat {
             mode,
+            most,
             live: Vec::new(alloc),
             pages: Vec::new(alloc),
             common: Vec::new(alloc),
@@ -278,7 +283,7 @@ impl Flat {
             .iter()
             .filter(|common| is_due(pages, range, common))
             .count()
-            > MSYNC_PAGES
+            > self.most
         {
             return Reply::Refused(Errno::ENOSPC);
         }

@@ -1,6 +1,4 @@
 //! What the tests share: a trace over an image of files, and a run of it with a fault. No other file here makes a machine.
-ghost use Rattle.stores.specs.NewStores.{IsSizedNew};
-
 use crate::fillings::{EACH, FILLINGS, OLD, OPEN};
 use crate::judge::{Judge, heard};
 use crate::short_disk::ShortDisk;
@@ -59,16 +57,6 @@ pub(crate) fn expect(rt: &impl Abort, holds: bool, otherwise: &str) {
     assert!(rt; holds, "{otherwise}");
 }
 
-/// That store, which has to be one that is made: a constant has no condition.
-fn sized(rt: &impl Abort, store: NewStore) -> NewStore
-    ensures { IsSizedNew result }
-{
-    if let NewStore::Pool(blocks) = store {
-        assert!(rt; 1 <= blocks && blocks <= 2048);
-    }
-    store
-}
-
 /// Why the store of an image was not opened, if so, and its device.
 pub(crate) fn tried(alloc: Global, image: ShortDisk) -> (Option<OpenFault>, ShortDisk) {
     match Store::open(alloc, image) {
@@ -93,7 +81,10 @@ impl Case<'_> {
                 .expect(rt, "memory");
         }
         let mut disk = ShortDisk::new(rt.alloc(), self.store, homes).expect(rt, "memory");
-        format(&mut disk, sized(rt, self.store), files.as_mut_slice()).expect(rt, "a store");
+        if let NewStore::Pool(blocks) = self.store {
+            assert!(rt; 1 <= blocks && blocks <= 2048);
+        }
+        format(&mut disk, self.store, files.as_mut_slice()).expect(rt, "a store");
         disk
     }
 

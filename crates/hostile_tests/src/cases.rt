@@ -6,7 +6,7 @@ use stores::NewStore;
 use sync_journal::Journals;
 use vm_types::Mode;
 
-/// Stores of one journal, of two in turn, and of the smallest pool that a machine takes.
+/// Stores of one journal, of two in turn, and of a pool with maps of three blocks.
 const SINGLE: NewStore = NewStore::Journals(Journals::Single);
 
 const PAIRED: NewStore = NewStore::Journals(Journals::Paired);

@@ -4,6 +4,8 @@ use flat_model::Flat;
 use machine::BootFault;
 use runner::RunEnd;
 use std::process::Abort;
+use stores::NewStore;
+use sync_journal::PAGE_LIMIT;
 use trace_lang::{parse_line, reply_text};
 
 /// What the model makes of a run.
@@ -57,7 +59,11 @@ pub(crate) fn heard(
     told: &Told,
     stall: &[u8],
 ) -> Judge {
-    let flat = Flat::new(rt.alloc(), case.config.mode, case.lengths).expect(rt, "memory");
+    let most = match case.store {
+        NewStore::Journals(_) => PAGE_LIMIT,
+        NewStore::Pool(blocks) => 504 * blocks as usize,
+    };
+    let flat = Flat::new(rt.alloc(), case.config.mode, most, case.lengths).expect(rt, "memory");
     let mut judge = Judge {
         flat,
         stalls: 0,

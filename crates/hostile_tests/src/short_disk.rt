@@ -28,19 +28,6 @@ struct Piece {
     absent: u64,
 }
 
-impl Piece {
-    /// Where so many sectors from that one on lie, if they are of this piece.
-    fn place(&self, n: u64, count: u64) -> Option<u64>
-        ensures { IfSome result (λ at. at ≤ n) }
-    {
-        if self.from <= n && n < self.to && count <= self.to - n {
-            Some(n.saturating_sub(self.absent))
-        } else {
-            None
-        }
-    }
-}
-
 /// Where the pieces of a store of few homes lie: what lies before a body and so many sectors of the body, of each journal or half of a pool,
 /// and the homes.
 fn pieces_of(store: NewStore, body: u64, homes: u64) -> [Piece; 3] {
@@ -190,23 +177,19 @@ impl ShortDisk {
         let gate = self.sector(POOL_GATE);
         let named = self.pieces[usize::from(FILLINGS[OPEN] == Some(&gate))];
         let body = self.slots.saturating_mul(8);
-        // Of a map the block of the first slots comes last.
+        // Of a map the block of the first slots comes last. Its numbers are of four bytes, 128 to a sector.
         let block = named.to.saturating_sub(body).saturating_sub(8);
+        let given = home.saturating_add(1).to_le_bytes();
         for place in 0..1008_u64 {
             let slot = place % 504;
-            if slot < self.slots && self.number(block, 16 + place) == home.saturating_add(1) {
+            let sector = self.sector(block.saturating_add((16 + place) / 128));
+            let at = 4 * ((16 + place) % 128) as usize;
+            if slot < self.slots && sector[at..].starts_with(&given[..4]) {
                 let end = self.pieces[(place / 504) as usize].to;
                 return end.saturating_sub(body).saturating_add(8 * slot);
             }
         }
         self.pieces[2].from.saturating_add(home.saturating_mul(8))
-    }
-
-    /// A number of the block of a map that begins at a sector.
-    fn number(&self, block: u64, n: u64) -> u64 {
-        let sector = self.sector(block.saturating_add(n / 128));
-        let at = 4 * (n % 128) as usize;
-        u64::from(u32::from_le_bytes([sector[at], sector[at + 1], sector[at + 2], sector[at + 3]]))
     }
 
     /// What a sector holds, or zeros where it is absent.
@@ -221,19 +204,15 @@ impl ShortDisk {
     fn place(&self, n: u64, count: u64) -> Option<u64>
         ensures { IfSome result (λ at. (at + count ≤ sectors_in self.now.disk) × (at ≤ n)) }
     {
-        let at = self.place_in_pieces(n, count)?;
-        match at.checked_add(count) {
-            Some(end) if end <= self.disk.sectors() => Some(at),
-            _ => None,
-        }
-    }
-
-    fn place_in_pieces(&self, n: u64, count: u64) -> Option<u64>
-        ensures { IfSome result (λ at. at ≤ n) }
-    {
         for piece in &self.pieces {
-            if let Some(at) = piece.place(n, count) {
-                return Some(at);
+            if piece.from <= n && n < piece.to && count <= piece.to - n {
+                let at = n.saturating_sub(piece.absent);
+                let end = at.checked_add(count)?;
+                return if end <= self.disk.sectors() {
+                    Some(at)
+                } else {
+                    None
+                };
             }
         }
         None

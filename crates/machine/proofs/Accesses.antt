@@ -3,7 +3,8 @@ use Rattle.vm_types.specs.declared.mode.Levels as Levels
 use Rattle.machine.proofs.Names.{ℕ, ◌≡◌, ◌≢◌, Bool, true, false, not, if◌then◌else◌, refl, sym, ap, ◌∙◌, subst, Ghosts, UsesDevice, ReadsStore, picture_of, is_live, Core, KeepsDevices, KeepsToPage, GivesPagesBack, is_denial, is_idle}
 use Rattle.machine.proofs.Names.{Access, Command, Errno, EIO, ESRCH, Fault, Answer, Reply, Faulted, Refused, Stalled, Past, reply_of, is_io_error, State, Outcome, outcome, answers}
 use Rattle.machine.proofs.Names.{past_after, ruling, takes}
-use Rattle.machine.{specs.{Engine.{EngineMeets}, declared.engine.Engine.{Engine}, Accesses.{Accesses}, EngineCommands.{EngineCarriesOut}}, proofs.Flat.{OnlyNow, is_running, keeps_all, read_meets, shows_core, unread, unswapped}}
+use Rattle.machine.{specs.{Engine.{EngineMeets, IsSoundEngine}, declared.engine.Engine.{Engine}, Accesses.{Accesses}, EngineCommands.{EngineCarriesOut}}, proofs.Flat.{OnlyNow, is_running, keeps_all, read_meets, room_still, shows_core, unread, unswapped}}
+use Rattle.{msync.specs.Shows.{HasSyncRoom, RoomSize}, stores.specs.Store.{always_free_in}}
 use Rattle.spaces.specs.Calls as Calls
 use Rattle.vm_types.specs.declared.reply.Answer.TheVariants as Answers
 
@@ -31,9 +32,9 @@ faults_live s pid x fault same is =
     ] is
 
 module _ {M : Type 0} {levels : Levels.Ghosts M} {D E : Type 0} (g : Ghosts D) (h : Ghosts E) where
-  machine_is : (m : Engine D E M levels) (core : Core D E M levels) (halted : Bool) (past : Past) → m.core ≡ core → m.halted ≡ halted → m.past ≡ past
-      → ◌≡◌ {A = Engine D E M levels} (record { core = core; halted = halted; past = past; sync_room = tt; region_room = tt }) m
-  machine_is m core halted past a b c = λ t. record { core = sym a t; halted = sym b t; past = sym c t; sync_room = tt; region_room = tt }
+  machine_is : (m : Engine D E M levels) (core : Core D E M levels) (halted : Bool) (past : Past) (room : RoomSize) → m.core ≡ core → m.halted ≡ halted → m.past ≡ past → m.sync_room ≡ room
+      → ◌≡◌ {A = Engine D E M levels} (record { core = core; halted = halted; past = past; sync_room = room; region_room = tt }) m
+  machine_is m core halted past room a b c d = λ t. record { core = sym a t; halted = sym b t; past = sym c t; sync_room = sym d t; region_room = tt }
 
   pub lives : (old core : Core D E M levels) (s : State) (command : Command) (reply : Reply) (pid : ℕ) → Calls.Comes g h old core s command reply
       → ((fault : Fault) → (outcome s command).reply ≡ Faulted fault → (outcome s command).state.live pid ≡ true)
@@ -83,16 +84,19 @@ module _ {M : Type 0} {levels : Levels.Ghosts M} {D E : Type 0} (g : Ghosts D) (
   }
 
   -- A call is carried out by a machine that runs, and makes nothing durable. The history may note what came of it.
-  pub carries_out : (only_now : OnlyNow g) (old new : Engine D E M levels) (core : Core D E M levels) (command : Command) (reply result : Reply) → old.halted ≡ false
-      → ((s : State) → takes s (ruling s command) s.durable ≡ s.durable) → new.core ≡ core → new.halted ≡ old.halted → result ≡ reply
+  pub carries_out : (only_now : OnlyNow g) (old new : Engine D E M levels) (core : Core D E M levels) (command : Command) (reply result : Reply) → IsSoundEngine g h old → old.halted ≡ false
+      → ((s : State) → takes s (ruling s command) s.durable ≡ s.durable) → new.core ≡ core → new.halted ≡ old.halted → new.sync_room ≡ old.sync_room → result ≡ reply
       → ((s : State) → Calls.Comes g h old.core core s command reply → new.past ≡ past_after command reply old.past)
       → IsCall old.core core command reply → Accesses g h old.core core command reply → EngineCarriesOut g h old new command result
-  carries_out only_now old new core command reply result run none core_is halted_is same noted said asked =
+  carries_out only_now old new core command reply result sound run none core_is halted_is room_is same noted said asked =
       let both = subst (λ (k : Core D E M levels). IsCall old.core k command reply × Accesses g h old.core k command reply) (sym core_is) (said, asked) in
       let call = both.0 in
       subst (λ (r : Reply). EngineCarriesOut g h old new command r) (sym same) (record {
         does = record {
-          sound = record { going = λ _. call.accounts.sound };
+          sound = record {
+            going = λ _. call.accounts.sound;
+            room = subst (HasSyncRoom g new.core) (sym room_is) (room_still g h old.core new.core old.sync_room (ap always_free_in call.reads.same) call.accounts.room sound.room);
+          };
           keeps = record { kept = call.reads.kept; swap_kept = call.device.kept; room = call.accounts.room };
           caused = call.accounts.caused;
           accesses = both.1;
@@ -104,8 +108,8 @@ module _ {M : Type 0} {levels : Levels.Ghosts M} {D E : Type 0} (g : Ghosts D) (
         };
         meets = λ s shows readable.
             let past = past_after command reply old.past in
-            let comes = call.carries s (shows_core g h old s shows (is_running g h old s shows run)) readable.files readable.slots in
+            let comes = call.carries s (shows_core g h old s shows (is_running g h old s shows run) sound.room) readable.files readable.slots in
             let told : new.past ≡ past = noted s (subst (λ (k : Core D E M levels). Calls.Comes g h old.core k s command reply) core_is comes) in
-            subst (λ (m : Engine D E M levels). (t : State) × EngineMeets g h old m s t command reply) (machine_is new new.core false past refl (halted_is ∙ run) told)
+            subst (λ (m : Engine D E M levels). (t : State) × EngineMeets g h old m s t command reply) (machine_is new new.core false past old.sync_room refl (halted_is ∙ run) told room_is)
             (read_meets g h only_now old new.core past s command reply shows run call.reads call.device refl (call.idle s) call.accounts.room (none s) comes);
       })

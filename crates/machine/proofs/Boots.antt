@@ -1,9 +1,10 @@
 -- What a boot leaves, from what is said of the store that it opens.
 use Rattle.vm_types.specs.declared.mode.Levels as Levels
-use Rattle.machine.proofs.Names.{ℕ, ◌*◌, ◌≡◌, ◌≤◌, ◌⊎◌, inl, inr, ⊎_elim, false, List, Some, None, is_some, [], refl, sym, ap, ◌∙◌, subst, arith, rules, LeavesOnly, Image, MayLeave, Ghosts, started, stays, asks_none, view-none}
-use Rattle.machine.proofs.Names.{StandsFor, StandsAs, file_info, standing_page, Home, PageKey, File, Object, State, IsStart, Picture, picture_of, held, ShowsPages, slots_of}
+use Rattle.machine.proofs.Names.{ℕ, ◌+◌, ◌*◌, ◌≡◌, ◌≤◌, ◌⊎◌, inl, inr, ⊎_elim, false, List, Some, None, is_some, [], refl, sym, ap, ◌∙◌, subst, arith, rules, LeavesOnly, Image, MayLeave, Ghosts, started, stays, asks_none, view-none}
+use Rattle.machine.proofs.Names.{StandsFor, StandsAs, file_info, standing_page, Home, PageKey, File, Object, State, IsStart, Core, Picture, picture_of, held, ShowsPages, slots_of}
 use Rattle.machine.specs.{Boot.{HasBadFrames, HasBadSlots, BootAccepts, BootLeaves, BootRefuses}, EngineBoot.{EngineBoots}, StoreBoot.{BootsStore, RefusesStore}, declared.boot.{BootFault.{BootFault}, BootFault.TheVariants.{Frames, Slots, OutOfMemory}}}
-use Rattle.{machine.specs.declared.{config.Config.{Config}, engine.Engine.{Engine}}, stores.{proofs.Said.{files_said, stands_for_own}, specs.{Store.{disk_of, files_of}, declared.store.Store.{Store}}}}
+use Rattle.msync.specs.Shows.{HasSyncRoom, RoomSize}
+use Rattle.{machine.specs.declared.{config.Config.{Config}, engine.Engine.{Engine}}, stores.{proofs.Said.{files_said, stands_for_own}, specs.{Store.{always_free_in, disk_of, files_of, kept_of}, declared.store.Store.{Store}}}}
 
 -- sizes that pass the tests are fine
 pub fine_frames : (config : Config) → 8 ≤ config.frames → config.frames ≤ 65536 → HasBadFrames config → ⊥
@@ -61,7 +62,6 @@ module _ {D : Type 0} (g : Ghosts D) where
     bad_layout = unopened.bad_layout;
     bad_journal = unopened.bad_journal;
     layout_first = unopened.layout_first;
-    small_pool = unopened.small_pool;
     unasked = λ either. absurd (unopened.sized either);
     unwritten = unopened.unwritten;
     asks = unopened.asks;
@@ -94,6 +94,7 @@ module _ {M : Type 0} {levels : Levels.Ghosts M} {D E : Type 0} (g : Ghosts D) (
     live = λ pid. false;
     views = λ pid page. None;
     files = files_of m.core.store;
+    most = m.sync_room.most;
     volatile = standing_page n image;
     durable = standing_page n image;
     touched = λ file page. false;
@@ -124,13 +125,15 @@ module _ {M : Type 0} {levels : Levels.Ghosts M} {D E : Type 0} (g : Ghosts D) (
     clean = λ p e inside. refl;
   }
 
-  pub boots : (entry : D) (m : Engine D E M levels) (frames slots : ℕ) → m.halted ≡ false → m.past ≡ [] → BootsStore g entry m.core.store → IsStart m.core frames slots → EngineBoots g h entry m
-  boots entry m frames slots goes bare opened fresh = record {
+  pub boots : (entry : D) (m : Engine D E M levels) (frames slots : ℕ) → m.halted ≡ false → m.past ≡ [] → HasSyncRoom g m.core m.sync_room → BootsStore g entry m.core.store
+      → IsStart m.core frames slots → EngineBoots g h entry m
+  boots entry m frames slots goes bare sized opened fresh = record {
     state = start m (g.sector_count entry) (g.content entry);
     shows = record {
       pages = starts_so (g.sector_count entry) (g.content entry) m frames slots fresh;
       running = sym goes;
       past = bare;
+      most = refl;
       stands = λ keeps c may. (
         standing_page (g.sector_count entry) (g.content entry),
         refl,
@@ -141,4 +144,17 @@ module _ {M : Type 0} {levels : Levels.Ghosts M} {D E : Type 0} (g : Ghosts D) (
     fresh = subst (λ (n : ℕ). IsStart m.core n (slots_of m.core.swap).total) (sym fresh.fresh.frames) (subst (λ (n : ℕ). IsStart m.core frames n) (sym fresh.slots_free.total) fresh);
     start = record { live = λ pid. refl; views = λ pid page. refl; same = λ file page. refl; touched = λ file page. refl; objects = λ object page. refl; past = refl; running = refl };
     stands = λ keeps. stands_at_start entry m opened keeps;
+    most = λ keeps. sized.most ∙ opened.most keeps;
+  }
+
+  -- there is room for an msync
+  pub sized_at_start : (core : Core D E M levels) (room : RoomSize) (most frames slots : ℕ) → room ≡ record { most = most; ranks = frames + slots }
+      → most ≡ always_free_in (kept_of core.store) → IsStart core frames slots → HasSyncRoom g core room
+  sized_at_start core room most frames slots is always fresh = record {
+    most = ap (λ (r : RoomSize). r.most) is ∙ always;
+    ranks =
+        let all = fresh.fresh.frames in
+        let total = fresh.slots_free.total in
+        let ranks : room.ranks ≡ frames + slots = ap (λ (r : RoomSize). r.ranks) is in
+        omega (arith, all, total, ranks);
   }

@@ -25,7 +25,7 @@ row_refuses s pid first count Async = tt
 row_refuses s pid first count Sync =
     let n = touched_count s pid first count in
     let row = if n == 0 then Passes else Takes pid first count in
-    either RefusesOnly (nat_lt 1023 n) (Refuses ENOSPC) row refl (either RefusesOnly (n == 0) Passes (Takes pid first count) tt tt)
+    either RefusesOnly (nat_lt s.most n) (Refuses ENOSPC) row refl (either RefusesOnly (n == 0) Passes (Takes pid first count) tt tt)
 
 msync_refuses : (s : State) (pid addr len : ℕ) (mode : MsyncMode) → RefusesOnly (msync_ruling s pid addr len mode)
 msync_refuses s pid addr len mode =
@@ -98,7 +98,7 @@ module _ {M : Type 0} {levels : Levels.Ghosts M} {D E : Type 0} (g : Ghosts D) (
   n = g.sector_count (disk_of old.core.store)
 
   abbrev engine : Bool → Engine D E M levels
-  engine halts = record { core = core; halted = halts; past = old.past; sync_room = tt; region_room = tt }
+  engine halts = record { core = core; halted = halts; past = old.past; sync_room = old.sync_room; region_room = tt }
 
   -- at every moment the pages are as they were, or as they are to be
   during : may_have_taken reply ≡ true → GivesBack g h old.core core pid addr len → g.keeps_model (disk_of core.store)
@@ -126,6 +126,7 @@ module _ {M : Type 0} {levels : Levels.Ghosts M} {D E : Type 0} (g : Ghosts D) (
         pages = with_past (picture_of core) (outcome s x).state _ now.pages;
         running = ap is_some goes_on;
         past = shows.past ∙ sym all.past;
+        most = all.most ∙ shows.most;
         stands = λ k c may. (t.durable, subst (λ (o : Option (List Pages)). stands_in o t.durable t.durable) (sym goes_on) refl, now.stands k c may);
       })
       (λ stall e. absurd (let never : Done ≡ Stalled stall = sym done ∙ e in cc)) (ap is_denial done) (during (ap may_have_taken done) back)
@@ -142,6 +143,7 @@ module _ {M : Type 0} {levels : Levels.Ghosts M} {D E : Type 0} (g : Ghosts D) (
             (store_same (λ c. ShowsPages c t) (picture_of old.core) (slots_of old.core.swap) (slots_of core.swap) (directory_of old.core.store) (directory_of core.store) memory.slots memory.directory pages);
         running = refl;
         past = shows.past;
+        most = shows.most;
         stands = λ k c may.
             subst (λ (sectors : ℕ). StandsForSome sectors s.files (MayStand t) c) (sym made.size)
             (⊎_elim (λ b. (s.durable, inl refl, b)) (λ a. (after, inr (inl refl), a))
@@ -158,7 +160,7 @@ module _ {M : Type 0} {levels : Levels.Ghosts M} {D E : Type 0} (g : Ghosts D) (
       met false s
       (Stalls SwapDevice run
       (record { otherwise = ap is_success (done_of s (ruling s x) after commit); open_to = ap is_some commit; cause = grew }) stalled refl)
-      (record { pages = now.pages; running = ap is_some run; past = shows.past; stands = λ k c may. (s.durable, durable, now.stands k c may) })
+      (record { pages = now.pages; running = ap is_some run; past = shows.past; most = shows.most; stands = λ k c may. (s.durable, durable, now.stands k c may) })
       (λ stall e. subst (Calls.FallsShort (frame_count core.frames) (slots_of core.swap).total s x) (stall_is stall (sym stalled ∙ e)) tt) (ap is_denial stalled)
       (λ k. weaker g (disk_of old.core.store) (disk_of core.store) (StandsFor n s.files s.durable) (StandsForSome n s.files (HoldsIn s x reply))
       (λ c stands. (s.durable, inl durable, stands)) (only k))
@@ -172,34 +174,35 @@ module _ {M : Type 0} {levels : Levels.Ghosts M} {D E : Type 0} (g : Ghosts D) (
     pub back : (after : Pages) → commits s (Msync pid addr len mode) ≡ Some after → GivesBack g h old core pid addr len
 
   -- returning EIO, it halts the machine; returning anything else, it leaves it running
-  pub msync_meets : (only_now : OnlyNow g) (counts_now : CountsNow g) (old : Engine D E M levels) (core : Core D E M levels) (stops : Bool) (s : State) (pid addr len : ℕ) (mode : MsyncMode) (reply : Reply)
-      → EngineShows g h old s → old.halted ≡ false → KeepsRoom (picture_of old.core) (picture_of core) → UsesDevice h old.core.swap.pages.disk core.swap.pages.disk
+  pub msync_meets : (only_now : OnlyNow g) (counts_now : CountsNow g) (old : Engine D E M levels) (core : Core D E M levels) (stops : Bool) (room : Syncing.RoomSize) (s : State) (pid addr len : ℕ) (mode : MsyncMode)
+      (reply : Reply) → EngineShows g h old s → old.halted ≡ false → Syncing.HasSyncRoom g old.core old.sync_room → room ≡ old.sync_room → KeepsRoom (picture_of old.core) (picture_of core) → UsesDevice h old.core.swap.pages.disk core.swap.pages.disk
       → (Syncing.CoreShows g old.core s → Msynced old.core core s pid addr len mode reply)
       → (stops ≡ true → reply ≡ Refused EIO) → (stops ≡ false → reply ≡ Refused EIO → ⊥)
-      → (t : State) × EngineMeets g h old (record { core = core; halted = stops; past = old.past; sync_room = tt; region_room = tt }) s t (Msync pid addr len mode) reply
-  msync_meets only_now counts_now old core stops s pid addr len mode reply shows live room device said halts otherwise =
+      → (t : State) × EngineMeets g h old (record { core = core; halted = stops; past = old.past; sync_room = room; region_room = tt }) s t (Msync pid addr len mode) reply
+  msync_meets only_now counts_now old core stops room s pid addr len mode reply shows live sized same_room sizes device said halts otherwise =
       let x = Msync pid addr len mode in
-      let P : Bool → Type 0 = λ b. (t : State) × EngineMeets g h old (record { core = core; halted = b; past = old.past; sync_room = tt; region_room = tt }) s t x reply in
+      let after_it : Bool → Syncing.RoomSize → Type 0 = λ b left. (t : State) × EngineMeets g h old (record { core = core; halted = b; past = old.past; sync_room = left; region_room = tt }) s t x reply in
+      let P : Bool → Type 0 = λ b. after_it b old.sync_room in
       let goes_on : (reply ≡ Refused EIO → ⊥) → P false → P stops = λ never meets. subst P (sym (false_from_ne_true stops (λ e. never (halts e)))) meets in
       let run = is_running g h old s shows live in
-      let told = said (shows_core g h old s shows run) in
-      ⊎_elim (λ none.
+      let told = said (shows_core g h old s shows run sized) in
+      subst (after_it stops) (sym same_room) (⊎_elim (λ none.
       let stays = stays_of s (ruling s x) none in
       let same : core ≡ old.core = (told.passes none).1 in
       let pages : ShowsPages (picture_of core) (outcome s x).state =
       subst (λ (t : State). ShowsPages (picture_of core) t) (sym stays.0) (subst (λ (o : Core D E M levels). ShowsPages (picture_of o) s) (sym same) shows.pages) in
       let keeps : KeepsDevices old.core core = keeps_all g h old.core core same in
       goes_on (λ e. never_fails s pid addr len mode (sym (told.passes none).0 ∙ e))
-      (answered g h only_now old core false old.past s x reply shows live refl stays.1 refl (unread g old.core.store core.store keeps.store) device (λ _. keeps) room (Calls.Does (told.passes none).0 pages)))
+      (answered g h only_now old core false old.past s x reply shows live refl stays.1 refl (unread g old.core.store core.store keeps.store) device (λ _. keeps) sizes (Calls.Does (told.passes none).0 pages)))
       (λ (some : (after : Pages) × (commits s x ≡ Some after)).
       let made = told.commits_so some.0 some.1 in
       let back = told.back some.0 some.1 in
       elim made.end as (λ _. P stops) [
         | Acknowledged done pages now sound ↦ goes_on (λ e. (let never : Done ≡ Refused EIO = sym done ∙ e in cc))
-            (commit_done g h old core s pid addr len mode reply some.0 shows run room device some.1 made back done (now back))
+            (commit_done g h old core s pid addr len mode reply some.0 shows run sizes device some.1 made back done (now back))
         | Failed failed grew memory ↦ subst P (sym (true_from_ne_false stops (λ e. otherwise e failed)))
-            (commit_failed g h old core s pid addr len mode reply some.0 shows run room device some.1 made counts_now back failed grew memory)
+            (commit_failed g h old core s pid addr len mode reply some.0 shows run sizes device some.1 made counts_now back failed grew memory)
         | Unread stalled grew memory now sound only ↦ goes_on (λ e. (let never : Stalled SwapDevice ≡ Refused EIO = sym stalled ∙ e in cc))
-            (commit_unread g h old core s pid addr len mode reply some.0 shows run room device some.1 made stalled grew now only)
+            (commit_unread g h old core s pid addr len mode reply some.0 shows run sizes device some.1 made stalled grew now only)
       ])
-      (none_or_some (commits s x))
+      (none_or_some (commits s x)))

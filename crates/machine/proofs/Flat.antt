@@ -8,7 +8,7 @@ use Rattle.machine.{specs.{Engine.{stands_in, MayStand, HoldsIn, StandsForSome, 
 use Rattle.msync.specs.Shows as Syncing
 use Rattle.spaces.specs.Calls as Calls
 use Rattle.vm_types.specs.declared.access.Access.TheVariants as Kinds
-use Rattle.stores.specs.{Store.{disk_of, kept_of}, declared.store.Store.{Store as AnyStore}}
+use Rattle.stores.specs.{Store.{always_free_in, disk_of, kept_of}, declared.store.Store.{Store as AnyStore}}
 
 running_of : (o : Option (List Pages)) → is_some o ≡ false → o ≡ None
 running_of None e = refl
@@ -81,9 +81,10 @@ module _ {mode : ℕ} where
   pub with_past : (c : Picture mode) (s : State) (past : Past) → ShowsPages c s → ShowsPages c (record s { past = past })
   with_past c s past shows = search rules
 
--- the same files, running or halted as before, and the same durable pages
+-- the same files, as many pages of an msync, running or halted as before, and the same durable pages
 record Leaves (s t : State) : Type 0 where
   pub files : t.files ≡ s.files
+  pub most : t.most ≡ s.most
   pub ends : t.ends ≡ s.ends
   pub durable_is : t.durable ≡ s.durable
 
@@ -121,15 +122,23 @@ module _ {M : Type 0} {levels : Levels.Ghosts M} {D E : Type 0} (g : Ghosts D) (
       subst (λ (d : Pages). StandsFor (g.sector_count (disk_of old.core.store)) s.files d c) e p.2
 
   -- a running machine's processes and files
-  pub shows_core : (old : Engine D E M levels) (s : State) → EngineShows g h old s → IsRunning s → Syncing.CoreShows g old.core s
-  shows_core old s shows run = record { pages = shows.pages; stands = λ k. durable_now old s shows run k }
+  pub shows_core : (old : Engine D E M levels) (s : State) → EngineShows g h old s → IsRunning s → Syncing.HasSyncRoom g old.core old.sync_room → Syncing.CoreShows g old.core s
+  shows_core old s shows run sized = record { pages = shows.pages; most = shows.most ∙ sized.most; stands = λ k. durable_now old s shows run k }
+
+  -- there is room for an msync still
+  pub room_still : (old core : Core D E M levels) (room : Syncing.RoomSize) → always_free_in (kept_of core.store) ≡ always_free_in (kept_of old.store)
+      → KeepsRoom (picture_of old) (picture_of core) → Syncing.HasSyncRoom g old room → Syncing.HasSyncRoom g core room
+  room_still old core room same sizes sized = record {
+    most = sized.most ∙ sym same;
+    ranks = (let frames = sizes.frames in let slots = sizes.slots in let enough = sized.ranks in omega (arith, frames, slots, enough));
+  }
 
   -- the state after it, where the store was only read
   module _ (only_now : OnlyNow g) (old : Engine D E M levels) (core : Core D E M levels) (past : Past) (s : State) (command : Command) (reply : Reply)
       (shows : EngineShows g h old s) (run : old.halted ≡ false) (reads : ReadsStore g old.core.store core.store) (device : UsesDevice h old.core.swap.pages.disk core.swap.pages.disk)
       (kept_past : past ≡ past_after command reply old.past) (idle : is_idle s command reply ≡ true → KeepsDevices old.core core) (room : KeepsRoom (picture_of old.core) (picture_of core)) where
     abbrev new : Engine D E M levels
-    new = record { core = core; halted = false; past = past; sync_room = tt; region_room = tt }
+    new = record { core = core; halted = false; past = past; sync_room = old.sync_room; region_room = tt }
 
     abbrev n : ℕ
     n = g.sector_count (disk_of old.core.store)
@@ -157,12 +166,13 @@ module _ {M : Type 0} {levels : Levels.Ghosts M} {D E : Type 0} (g : Ghosts D) (
     did none answer pages =
         let t = noted command reply (outcome s command).state in
         let all = outcome_keeps s command in
-        let kept : Leaves s t = record { files = all.files; ends = all.ends; durable_is = all.durable_is ∙ none } in (
+        let kept : Leaves s t = record { files = all.files; most = all.most; ends = all.ends; durable_is = all.durable_is ∙ none } in (
           t,
           told t (Answers (is_running old s shows run) answer refl) (record {
             pages = with_past (picture_of core) (outcome s command).state _ pages;
             running = goes t kept;
             past = kept_past ∙ ap (past_after command reply) (shows.past ∙ sym all.past);
+            most = kept.most ∙ shows.most;
             stands = moved t kept;
           }) (λ stall e. absurd (all.answers stall (sym answer ∙ e))),
         )
@@ -170,12 +180,13 @@ module _ {M : Type 0} {levels : Levels.Ghosts M} {D E : Type 0} (g : Ghosts D) (
     stalled : (stall : Stall) → MayStall (Calls.causes g h old.core core) s command stall → Calls.FallsShort (frame_count core.frames) (slots_of core.swap).total s command stall
         → reply ≡ Reply.Stalled stall → ShowsPages (picture_of core) s → (t : State) × EngineMeets g h old new s t command reply
     stalled stall may short answer pages =
-        let kept : Leaves s s = record { files = refl; ends = refl; durable_is = refl } in (
+        let kept : Leaves s s = record { files = refl; most = refl; ends = refl; durable_is = refl } in (
           s,
           told s (Stalls stall (is_running old s shows run) may answer refl) (record {
             pages = pages;
             running = goes s kept;
             past = kept_past ∙ ap (λ (r : Reply). past_after command r old.past) answer ∙ past_stalled command stall old.past ∙ shows.past;
+            most = shows.most;
             stands = moved s kept;
           }) (λ other e. subst (Calls.FallsShort (frame_count core.frames) (slots_of core.swap).total s command) (same_stall stall other (sym answer ∙ e)) short),
         )
@@ -196,9 +207,9 @@ module _ {M : Type 0} {levels : Levels.Ghosts M} {D E : Type 0} (g : Ghosts D) (
       → EngineShows g h old s → old.halted ≡ false → halted ≡ false → takes s (ruling s command) s.durable ≡ s.durable
       → past ≡ past_after command reply old.past → ReadsStore g old.core.store core.store → UsesDevice h old.core.swap.pages.disk core.swap.pages.disk
       → (is_idle s command reply ≡ true → KeepsDevices old.core core) → KeepsRoom (picture_of old.core) (picture_of core) → Calls.Comes g h old.core core s command reply
-      → (t : State) × EngineMeets g h old (record { core = core; halted = halted; past = past; sync_room = tt; region_room = tt }) s t command reply
+      → (t : State) × EngineMeets g h old (record { core = core; halted = halted; past = past; sync_room = old.sync_room; region_room = tt }) s t command reply
   answered only_now old core halted past s command reply shows run goes_on none kept_past reads device idle room comes =
-      subst (λ (b : Bool). (t : State) × EngineMeets g h old (record { core = core; halted = b; past = past; sync_room = tt; region_room = tt }) s t command reply) (sym goes_on)
+      subst (λ (b : Bool). (t : State) × EngineMeets g h old (record { core = core; halted = b; past = past; sync_room = old.sync_room; region_room = tt }) s t command reply) (sym goes_on)
       (read_meets only_now old core past s command reply shows run reads device kept_past idle room none comes)
 
   pub stays_halted : (only_now : OnlyNow g) (old : Engine D E M levels) (s : State) (command : Command) → EngineShows g h old s → old.halted ≡ true

@@ -5,7 +5,7 @@ use Rattle.machine.proofs.Names.{past_after, ruling, takes, Access, StoredValue,
 use Rattle.machine.proofs.{Accesses.{carries_out, on_page}, Counts.{counts}, Face.{face, readable}, Flat.{OnlyNow, unread, unused}, HardwareWalks.{user_walked, walks_same}, Runs.{all_ran, ran_first, room_none, room_then, RanSoFar}, Tidied.{tidied}}
 use Rattle.fault.{proofs.{Chances.{others_kept, others_same}, Ready.{grants_found}, Serving.{tends_none}, Settling.{beside_around}, Wanted.{walked_same}}, specs.{Changes.{IsThatPage}, Outcome.{IsPlaced}, Serving.{Reaches}, Wants.{ShowsFile}}}
 use Rattle.frames.{proofs.FrameLemmas.{IsHeld-above, IsHeld-not_zero, IsSound-step, with_bytes-others}, specs.{FrameTable.{FrameTable, IsHeld, bytes_of, frame_count, role_of, with_bytes}, declared.role.Role.TheVariants.{Table}}}
-use Rattle.{stores.specs.Store.{disk_of, kept_of, HasRoomFor, IsReadyStore}, vm_types.specs.Limits.{msync_pages}, msync.specs.Shows.{IsSoundCore}, residency.specs.{Parts.{IsFit}, Picture.{Picture}}, std.specs.Prelude.{Ok}, sv39_walk.specs.Walk.{is_store}, swap.specs.Slots.{IsReady}}
+use Rattle.{stores.specs.Store.{disk_of, kept_of, HasRoom, IsReadyStore}, msync.specs.Shows.{IsSoundCore}, residency.specs.{Parts.{IsFit}, Picture.{Picture}}, std.specs.Prelude.{Ok}, sv39_walk.specs.Walk.{is_store}, swap.specs.Slots.{IsReady}}
 use Rattle.spaces.{proofs.{Asking.{asks_unstalled, writes_none}, Reading.{reads}, Writing.{data_frame, entries_stored, open_held, fit_stored, others_stored, room_stored, slotted_stored, stores}}, specs.{Accesses.{CarriesRead, WritesNumber}, Calls.{Carries}}}
 use Rattle.vm_types.specs.{Access.{loaded, with_number}, Width.{byte_count}, declared.{number.Phys.{Phys}, reply.Reply.TheVariants.{Value}, width.Width.TheVariants.{Four}}}
 use Rattle.vm_types.specs.declared.access.Access.TheVariants as Kinds
@@ -68,7 +68,7 @@ module _ {M : Type 0} {levels : Levels.Ghosts M} {D E : Type 0} (g : Ghosts D) (
         let number = ap (λ (at : ℕ). loaded (bytes_of c.frames (is.place.0 / 4096)) at (byte_count width)) reach.placed.offset in
         let call = carries (reads g h c c pid addr width kind (Ok is.place) reach (ap is_some is.granted.lives) no_store is.place refl _ number) in
         subst (λ (m : Engine D E M levels). EngineCarriesOut g h old m command reply) (sym is.same)
-        (carries_out g h only_now old old c command told reply is.runs none refl refl is.value (λ s comes. noted)
+        (carries_out g h only_now old old c command told reply sound is.runs none refl refl refl is.value (λ s comes. noted)
         (on_page g h c c command told pid addr kind read_keeps call denies) (asks read_keeps.asks))
 
   -- a number that was written
@@ -98,7 +98,7 @@ module _ {M : Type 0} {levels : Levels.Ghosts M} {D E : Type 0} (g : Ghosts D) (
           accounts = record {
             sound = record {
               ready = subst (λ x. IsReadyStore g x) (sym writes.around.store) sound.ready;
-              room = subst (λ x. HasRoomFor msync_pages (kept_of x)) (sym writes.around.store) sound.room;
+              room = subst (λ x. HasRoom (kept_of x)) (sym writes.around.store) sound.room;
               swap = subst (λ x. IsReady h x) (sym writes.around.swap) sound.swap;
               fit = fit_stored before after pid (addr / 4096) backing n bytes sound.fit placed.usable writes.frames beside;
             };
@@ -155,7 +155,7 @@ module _ {M : Type 0} {levels : Levels.Ghosts M} {D E : Type 0} (g : Ghosts D) (
       let core = sound.going is.runs in
       let keeps = write_keeps old.core new.core pid addr stored is.place core is.granted is.writes in
       let placed = (reached old.core pid addr stored.width Kinds.Store is.place core is.granted).placed in
-      carries_out g h only_now old new new.core (Store pid addr stored) Done reply is.runs (λ s. refl) refl is.halted is.done (λ s comes. is.past)
+      carries_out g h only_now old new new.core (Store pid addr stored) Done reply sound is.runs (λ s. refl) refl is.halted is.room is.done (λ s comes. is.past)
       (on_page g h old.core new.core (Store pid addr stored) Done pid addr Kinds.Store keeps (write_carries old.core new.core pid addr stored is.place core is.granted is.writes) (λ s idle. idle)) (
         keeps.asks,
         λ place walked done. subst (λ (p : Phys). WritesNumber old.core new.core (p.0 / 4096) (addr % 4096) stored)
@@ -220,6 +220,7 @@ module _ {M : Type 0} {levels : Levels.Ghosts M} {D E : Type 0} (g : Ghosts D) (
             writes = record { frames = refl; around = record { store = refl; swap = refl; cache = refl; roots = refl; regions = refl; page_of = refl }; clock = refl; refused = refl };
             halted = refl;
             past = refl;
+            room = refl;
           },
         )
 

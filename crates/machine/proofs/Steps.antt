@@ -7,6 +7,7 @@ use Rattle.machine.proofs.Names.{asked_checks, row_checks, covered_checks, mmap_
 -- What a command comes to: an answer, with the same files, running or halted as before, and these durable pages.
 pub record Keeps (s : State) (x : Outcome) (durable : Pages) : Type 0 where
   pub files : x.state.files ≡ s.files
+  pub most : x.state.most ≡ s.most
   pub ends : x.state.ends ≡ s.ends
   pub durable_is : x.state.durable ≡ durable
   pub past : x.state.past ≡ s.past
@@ -30,9 +31,9 @@ keeps_refused : (s : State) (errno : Option Errno) (x : Outcome) → Keeps s x s
 keeps_refused s (Some errno) x h = search rules
 keeps_refused s None x h = h
 
-keeps_done : (s : State) (checks : Option Errno) (t : State) → t.files ≡ s.files → t.ends ≡ s.ends → t.durable ≡ s.durable → t.past ≡ s.past
+keeps_done : (s : State) (checks : Option Errno) (t : State) → t.files ≡ s.files → t.most ≡ s.most → t.ends ≡ s.ends → t.durable ≡ s.durable → t.past ≡ s.past
     → Keeps s (refused_or s checks (record { reply = Done; state = t })) s.durable
-keeps_done s checks t files ends durable past = keeps_refused s checks _ (record { files = files; ends = ends; durable_is = durable; past = past; answers = λ stall e. cc; faults = λ fault e. absurd (cc) })
+keeps_done s checks t files most ends durable past = keeps_refused s checks _ (record { files = files; most = most; ends = ends; durable_is = durable; past = past; answers = λ stall e. cc; faults = λ fault e. absurd (cc) })
 
 keeps_msync : (s : State) (r : Ruling) → Keeps s (msync_outcome s r) (takes s r s.durable)
 keeps_msync s (Refuses errno) = search rules
@@ -72,9 +73,9 @@ outcome_keeps s Spawn = keeps_spawn s (least_free_pid s.live)
 outcome_keeps s (Fork pid) = keeps_live s pid _ (keeps_fork s pid (least_free_pid s.live))
 outcome_keeps s (Exit pid) = keeps_live s pid _ (search rules)
 outcome_keeps s (Mmap pid addr len prot source placing) = keeps_mmap s pid len prot source (mmap_errno s pid addr len prot source placing) (mmap_place s pid addr len placing)
-outcome_keeps s (Munmap pid addr len) = keeps_done s (first_of (munmap_checks s pid addr len)) _ refl refl refl refl
-outcome_keeps s (Mprotect pid addr len prot) = keeps_asked s pid addr len _ (keeps_done s (first_of (row_checks s pid (addr / 4096) (pages_from addr len) prot)) _ refl refl refl refl)
-outcome_keeps s (Dontneed pid addr len) = keeps_asked s pid addr len _ (keeps_done s (first_of (covered_checks s pid (addr / 4096) (pages_from addr len))) _ refl refl refl refl)
+outcome_keeps s (Munmap pid addr len) = keeps_done s (first_of (munmap_checks s pid addr len)) _ refl refl refl refl refl
+outcome_keeps s (Mprotect pid addr len prot) = keeps_asked s pid addr len _ (keeps_done s (first_of (row_checks s pid (addr / 4096) (pages_from addr len) prot)) _ refl refl refl refl refl)
+outcome_keeps s (Dontneed pid addr len) = keeps_asked s pid addr len _ (keeps_done s (first_of (covered_checks s pid (addr / 4096) (pages_from addr len))) _ refl refl refl refl refl)
 outcome_keeps s PastFaults = search rules
 outcome_keeps s (Msync pid addr len mode) = keeps_msync s (msync_ruling s pid addr len mode)
 outcome_keeps s (Load pid addr width) = keeps_live s pid _ (keeps_load s addr width _)

@@ -1,14 +1,14 @@
 -- A store that a boot opens, from what its opening and the room made in it say.
-use Rattle.machine.proofs.Names.{ℕ, ◌*◌, ◌≡◌, ◌≤◌, ◌<◌, ◌⊎◌, ◌∙◌, inl, inr, ⊎_elim, Bool, true, false, refl, sym, ap, subst, arith, cases_Bool}
+use Rattle.machine.proofs.Names.{ℕ, ◌≡◌, ◌⊎◌, ◌∙◌, inl, inr, ⊎_elim, Bool, true, false, refl, sym, ap, subst, arith, cases_Bool}
 use Rattle.machine.proofs.Names.{LeavesNow, LeavesOnly, Image, MayLeave, Ghosts, joined, weaker, asks_none, asks_then, asks_wider, StandsFor, StandsAs, file_info, standing_page, OpenFault}
-use Rattle.machine.specs.{Boot.{BootLeaves, HasSmallPool, IsAskedToBoot}, Fault.{boot_fault}, StoreBoot.{BootsStore, RefusesStore, RunsStoreBoot}}
-use Rattle.machine.specs.declared.boot.{BootFault.{BootFault}, BootFault.TheVariants.{Frames, Slots, Device, BadLayout, BadJournal, SmallPool}}
+use Rattle.machine.specs.{Boot.{BootLeaves, IsAskedToBoot}, Fault.{boot_fault}, StoreBoot.{BootsStore, RefusesStore, RunsStoreBoot}}
+use Rattle.machine.specs.declared.boot.{BootFault.{BootFault}, BootFault.TheVariants.{Frames, Slots, Device, BadLayout, BadJournal}}
 use Rattle.std.specs.Prelude.{Result, Ok, Err}
 use Rattle.disk_model.specs.{Moments.{AsksOnly}, declared.sector_disk.DiskFault.{DiskFault}}
 use Rattle.file_store.specs.Standing.{AreBounded}
-use Rattle.stores.proofs.{Heads.{same_blocks, same_mark}, Said.{always_said, committed_inside, kind_outside, mark_outside, outside_alike, roomy, stands_as_said, stands_for_own, used_inside}}
-use Rattle.stores.specs.{Images.{is_pool, map_blocks, IsAskedToOpen, IsOutside}, Opened.{OpensFrom, RefusesToOpen, RunsOpening}, Rooms.{MakesRoom}}
-use Rattle.stores.specs.Store.{AnyDirectory, always_free_in, disk_of, files_in, kept_of, IsUsedIn}
+use Rattle.stores.proofs.{Heads.{same_mark}, Said.{committed_inside, kind_outside, mark_outside, outside_alike, roomy, stands_as_said, stands_for_own, used_inside}}
+use Rattle.stores.specs.{Images.{is_pool, IsAskedToOpen, IsOutside}, Opened.{OpensFrom, RefusesToOpen, RunsOpening}, Rooms.{MakesRoom}}
+use Rattle.stores.specs.Store.{AnyDirectory, disk_of, files_in, kept_of, IsUsedIn}
 use Rattle.stores.specs.declared.{faults.OpenFault.TheVariants.{Device as StoreDevice, BadLayout as StoreLayout, BadJournal as StoreJournal, Memory as StoreMemory}, store.Store.{Store}}
 
 -- a fault that is told is the one that came
@@ -24,7 +24,7 @@ was_device : (fault : OpenFault) → boot_fault fault ≡ Device → fault ≡ S
 was_device StoreDevice e = refl
 was_device fault e = cc
 
--- none of a store is one of the machine's sizes, nor of a small pool
+-- none of a store is one of the machine's sizes
 no_size : (fault : OpenFault) → (boot_fault fault ≡ Frames) ⊎ (boot_fault fault ≡ Slots) → ⊥
 no_size StoreDevice (inl e) = cc
 no_size StoreDevice (inr e) = cc
@@ -34,12 +34,6 @@ no_size StoreJournal (inl e) = cc
 no_size StoreJournal (inr e) = cc
 no_size StoreMemory (inl e) = cc
 no_size StoreMemory (inr e) = cc
-
-no_small : (fault : OpenFault) → boot_fault fault ≡ SmallPool → ⊥
-no_small StoreDevice e = cc
-no_small StoreLayout e = cc
-no_small StoreJournal e = cc
-no_small StoreMemory e = cc
 
 -- a bad store is no failed device
 no_device : (fault : OpenFault) → (boot_fault fault ≡ BadLayout) ⊎ (boot_fault fault ≡ BadJournal) → fault ≡ StoreDevice → ⊥
@@ -81,7 +75,6 @@ module _ {D : Type 0} (g : Ghosts D) where
     bad_layout = λ keeps e. unopened.bad_layout keeps (was_layout fault e);
     bad_journal = λ keeps e. unopened.bad_journal keeps (was_journal fault e);
     layout_first = λ keeps e. unopened.layout_first keeps (was_journal fault e);
-    small_pool = λ keeps e. absurd (no_small fault e);
     unwritten = λ keeps bad. unopened.unwritten keeps (no_device fault bad);
   }
 
@@ -106,29 +99,9 @@ module _ {D : Type 0} (g : Ghosts D) where
     is_still : (b : Bool) → g.keeps_model (disk_of mid) → is_pool image ≡ b → is_pool opened_image ≡ b
     is_still b keeps is = same_mark image opened_image (mark keeps) ∙ is
 
-    slots : g.keeps_model (disk_of mid) → is_pool image ≡ true → always_free_in (kept_of mid) ≡ 504 * map_blocks image
-    slots keeps marked = always_said g mid opened.ready keeps (is_still true keeps marked) ∙ ap (λ m. 504 * m) (same_blocks image opened_image (kind keeps marked))
-
     -- what lies outside at entry lies outside still
     outside_still : g.keeps_model (disk_of mid) → is_pool image ≡ true → (k : ℕ) → IsOutside n image k → IsOutside (g.sector_count (disk_of mid)) opened_image k
     outside_still keeps marked k out = subst (λ x. IsOutside x opened_image k) (sym opened.size) (outside_alike n image opened_image (mark keeps) (kind keeps marked) marked k out)
-
-    -- A body of its pool has fewer slots than an msync takes pages.
-    pub refuses_small : always_free_in (kept_of mid) < 1023 → RefusesStore g entry SmallPool (disk_of mid)
-    refuses_small few = record {
-      err_run = opening_runs entry (disk_of mid) opened.run;
-      sized = λ e. ⊎_elim (λ e'. cc) (λ e'. cc) e;
-      device = λ e. cc;
-      err_calm = λ other. opened.calm;
-      bad_layout = λ keeps e. cc;
-      bad_journal = λ keeps e. cc;
-      layout_first = λ keeps e bad. cc;
-      small_pool = λ keeps e. ⊎_elim
-          (λ marked. (marked, (let all = slots keeps marked in omega (arith, few, all))))
-          (λ unmarked. (let all = (roomy g mid opened.ready keeps (is_still false keeps unmarked)).0 in absurd (omega (arith, few, all))))
-          (cases_Bool (is_pool image));
-      unwritten = λ keeps e. absurd (⊎_elim (λ e'. cc) (λ e'. cc) e);
-    }
 
     -- Room is made in it:
     module _ (new : Store D) (result : Result (Unit {0}) DiskFault) (made : MakesRoom g mid new result) where
@@ -184,17 +157,17 @@ module _ {D : Type 0} (g : Ghosts D) where
             (made.any_moment keeps (file_info n image) (standing_page n image) (left keeps))));
       }
 
-    -- enough for an msync,
-    pub boots_store : (new : Store D) → MakesRoom g mid new (Ok (tt {0})) → 1023 ≤ always_free_in (kept_of mid) → BootsStore g entry new
-    boots_store new made enough = record {
+    -- enough for every commit,
+    pub boots_store : (new : Store D) → MakesRoom g mid new (Ok (tt {0})) → BootsStore g entry new
+    boots_store new made = record {
       run = run new (Ok (tt {0})) made;
       ready = made.ready;
-      room = record { next = (let free = made.room in omega (arith, enough, free)); always = (let same = made.always in omega (arith, enough, same)) };
+      room = (let free = made.room in let same = made.always in omega (arith, free, same));
       bounded = subst (λ (directory : AnyDirectory). AreBounded (files_in directory)) (sym made.files) opened.bounded;
       layout = λ keeps. opened.good_layout (made.kept keeps);
       journal = λ keeps. opened.good_journal (made.kept keeps);
-      pool = λ keeps small. (let all = slots (made.kept keeps) small.0 in omega (arith, enough, all, small.1));
       now = now new (Ok (tt {0})) made;
+      most = λ keeps. made.always ∙ opened.most (made.kept keeps);
       calm = made.cause.calm ∙ opened.calm;
     }
 
@@ -208,6 +181,5 @@ module _ {D : Type 0} (g : Ghosts D) where
       bad_layout = λ keeps e. cc;
       bad_journal = λ keeps e. cc;
       layout_first = λ keeps e bad. cc;
-      small_pool = λ keeps e. cc;
       unwritten = λ keeps e. absurd (⊎_elim (λ e'. cc) (λ e'. cc) e);
     }

@@ -3,11 +3,10 @@ use Rattle.std.specs.Prelude.{ℕ, ◌*◌, ◌^◌, ◌≡◌, ◌<◌, ◌≤�
 use Rattle.disk_model.specs.Moments.{Touches, AsksOnly, Nothing, LeavesOnly}
 use Rattle.disk_model.specs.Stop.{Image}
 use Rattle.disk_model.specs.declared.sector_disk.SectorDisk.{Ghosts}
-use Rattle.stores.specs.Images.{is_pool, map_blocks, StandsFor, StandsAs, IsBadLayout, IsBadJournal, IsAskedToOpen, IsOutside}
-use Rattle.vm_types.specs.Limits.{msync_pages}
+use Rattle.stores.specs.Images.{is_pool, most_pages, StandsFor, StandsAs, IsBadLayout, IsBadJournal, IsAskedToOpen, IsOutside}
 use Rattle.vm_types.specs.State.{State, IsRunning}
 use Rattle.machine.specs.declared.boot.BootFault.{BootFault}
-use Rattle.machine.specs.declared.boot.BootFault.TheVariants.{Frames, Slots, Device, BadLayout, BadJournal, SmallPool}
+use Rattle.machine.specs.declared.boot.BootFault.TheVariants.{Frames, Slots, Device, BadLayout, BadJournal}
 use Rattle.machine.specs.declared.config.Config.{Config}
 use Rattle.machine.specs.declared.machine.Machine.{Machine}
 use Rattle.machine.specs.Machine.{Shows, IsEmpty, store_of, swap_of, frames_of, slot_count_of, refused_of, mode_of, bits_of}
@@ -19,10 +18,6 @@ HasBadFrames config = (config.frames < 8) ⊎ (2 ^ 16 < config.frames)
 -- more than 65,536 slots, or more than the swap device has room for
 abbrev pub HasBadSlots : Config → ℕ → Type 0
 HasBadSlots config sectors = (2 ^ 16 < config.slots) ⊎ (sectors < 8 * config.slots)
-
--- a pool that has fewer slots in a body than an msync takes pages at most
-abbrev pub HasSmallPool : Image → Type 0
-HasSmallPool image = (is_pool image ≡ true) × (504 * map_blocks image < msync_pages)
 
 -- What a boot asks a store's device for: what an opening does, and of a pool any sector of gate, maps, slots and homes, since a commit of no pages may
 -- make room for the first msync.
@@ -69,6 +64,8 @@ module _ {D E : Type 0} (g : Ghosts D) (h : Ghosts E) where
     pub same_mode : state.mode ≡ bits_of (mode_of m)
     -- the image at entry stood for these files, with these bytes
     pub stands : g.keeps_model (store_of m) → StandsFor (g.sector_count store) state.files state.durable (g.content store)
+    -- and an msync takes as many pages at most as that image says
+    pub most : g.keeps_model (store_of m) → state.most ≡ most_pages (g.sector_count store) (g.content store)
 
 module _ {D : Type 0} (g : Ghosts D) where
   -- What a boot that starts a machine was given, and what it leaves of the store's device, which is the new one then.
@@ -81,8 +78,6 @@ module _ {D : Type 0} (g : Ghosts D) where
     pub layout : g.keeps_model new → IsBadLayout (g.sector_count store) (g.content store) → ⊥
     -- no journal stands over its homes, or one with a map that some commit writes
     pub journal : g.keeps_model new → IsBadJournal (g.sector_count store) (g.content store) → ⊥
-    -- a body of its pool, if it has one, has slots for an msync
-    pub pool : g.keeps_model new → HasSmallPool (g.content store) → ⊥
     -- the device has as many sectors as it had
     pub size : g.sector_count new ≡ g.sector_count store
     -- if it keeps the disk model still, it did before
@@ -116,8 +111,6 @@ module _ {D : Type 0} (g : Ghosts D) where
     pub bad_journal : g.keeps_model new → fault ≡ BadJournal → IsBadJournal (g.sector_count store) (g.content store)
     -- a bad layout is reported before a bad journal
     pub layout_first : g.keeps_model new → fault ≡ BadJournal → IsBadLayout (g.sector_count store) (g.content store) → ⊥
-    -- `SmallPool` comes only where a body of the pool has fewer slots than an msync takes pages
-    pub small_pool : g.keeps_model new → fault ≡ SmallPool → HasSmallPool (g.content store)
     -- for sizes nothing was asked of the device
     pub unasked : (fault ≡ Frames) ⊎ (fault ≡ Slots) → new ≡ store
     -- for a bad image nothing was written to it

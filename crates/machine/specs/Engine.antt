@@ -11,7 +11,7 @@ use Rattle.residency.specs.Picture.{picture_of}
 use Rattle.residency.specs.Shows.{ShowsPages}
 use Rattle.fault.specs.Changes.{KeepsRoom}
 use Rattle.ranges.specs.Steps.{KeepsDevices}
-use Rattle.msync.specs.Shows.{IsSoundCore}
+use Rattle.msync.specs.Shows.{HasSyncRoom, IsSoundCore}
 use Rattle.spaces.specs.Calls as Calls
 use Rattle.spaces.specs.Idle.{is_idle}
 use Rattle.vm_types.specs.declared.command.Command.{Command}
@@ -64,16 +64,19 @@ module _ {M : Type 0} {levels : Levels.Ghosts M} {D E : Type 0} where
     pub halted : old.halted ≡ true → new ≡ old
 
 module _ {M : Type 0} {levels : Levels.Ghosts M} {D E : Type 0} (g : Ghosts D) (h : Ghosts E) where
-  -- The engine may go on: unless it has halted, its store may be read and committed to, slots may be put and got, and its memory
-  -- is fit.
+  -- The engine may go on: it has room for as many pages as an msync takes, and unless it has halted, its store may be read and
+  -- committed to, slots may be put and got, and its memory is fit.
   pub record IsSoundEngine (m : Engine D E M levels) : Type 0 where
+    pub room : HasSyncRoom g m.core m.sync_room
     pub going : m.halted ≡ false → IsSoundCore g h m.core
 
-  -- The engine is in that state: its memory shows it, and so does every image that a stop may leave now.
+  -- The engine is in that state: its memory shows it, its room is that for an msync, and every image that a stop may leave now shows it,
+  -- too.
   pub record EngineShows (m : Engine D E M levels) (s : State) : Type 0 where
     pub pages : ShowsPages (picture_of m.core) s
     pub running : is_some s.ends ≡ m.halted
     pub past : m.past ≡ s.past
+    pub most : s.most ≡ m.sync_room.most
     pub stands : g.keeps_model (disk_of m.core.store)
         → LeavesNow g (disk_of m.core.store) (StandsForSome (g.sector_count (disk_of m.core.store)) s.files (MayStand s))
 

@@ -74,6 +74,7 @@ module _ {M : Type 0} {levels : Levels.Ghosts M} {D E : Type 0} where
     pub writes : WritesNumber old.core new.core (place.0 / 4096) (place.0 % 4096) stored
     pub halted : new.halted ≡ old.halted
     pub past : new.past ≡ old.past
+    pub room : new.sync_room ≡ old.sync_room
 
   -- hardware makes the access of that command, with what it read as the reply; it carries out no other command
   abbrev pub HardwareMakes : Engine D E M levels → Engine D E M levels → Command → Reply → Type 0

@@ -91,8 +91,8 @@ module _ {D E : Type 0} (g : Ghosts D) (h : Ghosts E) where
   abbrev pub IsCausedBetween : Machine D E → Machine D E → Reply → Type 0
   IsCausedBetween old new reply = InSameMode (λ M levels before after. Calls.IsCaused g h before.core after.core reply) old new
 
-  -- The machine may go on: unless it has halted, its store may be read and committed to, slots may be put and got, and its memory
-  -- is fit.
+  -- The machine may go on: it has room for as many pages as an msync takes, and unless it has halted, its store may be read and
+  -- committed to, slots may be put and got, and its memory is fit.
   abbrev pub IsSoundMachine : Machine D E → Type 0
   IsSoundMachine m = InMode (λ M levels engine. IsSoundEngine g h engine) m
 

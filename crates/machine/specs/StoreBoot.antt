@@ -3,13 +3,12 @@ use Rattle.std.specs.Prelude.{ℕ, ◌≡◌, ◌<◌, ◌≤◌, ◌⊎◌}
 use Rattle.disk_model.specs.Moments.{Touches, AsksOnly, Nothing, LeavesNow}
 use Rattle.disk_model.specs.declared.sector_disk.SectorDisk.{Ghosts}
 use Rattle.file_store.specs.Standing.{AreBounded}
-use Rattle.stores.specs.Images.{StandsAs, IsBadLayout, IsBadJournal, IsOutside}
-use Rattle.stores.specs.Store.{disk_of, kept_of, files_of, HasRoomFor, IsReadyStore}
+use Rattle.stores.specs.Images.{most_pages, StandsAs, IsBadLayout, IsBadJournal, IsOutside}
+use Rattle.stores.specs.Store.{disk_of, kept_of, files_of, always_free_in, HasRoom, IsReadyStore}
 use Rattle.stores.specs.declared.store.Store.{Store}
-use Rattle.vm_types.specs.Limits.{msync_pages}
 use Rattle.machine.specs.declared.boot.BootFault.{BootFault}
-use Rattle.machine.specs.declared.boot.BootFault.TheVariants.{Frames, Slots, Device, BadLayout, BadJournal, SmallPool}
-use Rattle.machine.specs.Boot.{HasSmallPool, IsAskedToBoot, BootLeaves}
+use Rattle.machine.specs.declared.boot.BootFault.TheVariants.{Frames, Slots, Device, BadLayout, BadJournal}
+use Rattle.machine.specs.Boot.{IsAskedToBoot, BootLeaves}
 
 module _ {D : Type 0} (g : Ghosts D) where
   -- Whatever comes of it,
@@ -28,15 +27,15 @@ module _ {D : Type 0} (g : Ghosts D) where
   pub record BootsStore (entry : D) (store : Store D) : Type 0 where
     pub run : RunsStoreBoot entry (disk_of store)
     pub open run use *
-    -- it may be read, and committed to as often as msync asks, and its files' numbers and lengths are in their bounds;
+    -- it may be read, and committed to, the next commit taking as many pages as every one, and its files' numbers and lengths are in their bounds;
     pub ready : IsReadyStore g store
-    pub room : HasRoomFor msync_pages (kept_of store)
+    pub room : HasRoom (kept_of store)
     pub bounded : AreBounded (files_of store)
-    -- its image was that of a store with enough room, and stands for what it did, from now on;
+    -- its image was that of a store, stands for what it did, from now on, and says how many pages every commit may take;
     pub layout : g.keeps_model (disk_of store) → IsBadLayout (g.sector_count entry) (g.content entry) → ⊥
     pub journal : g.keeps_model (disk_of store) → IsBadJournal (g.sector_count entry) (g.content entry) → ⊥
-    pub pool : g.keeps_model (disk_of store) → HasSmallPool (g.content entry) → ⊥
     pub now : g.keeps_model (disk_of store) → LeavesNow g (disk_of store) (StandsAs (g.sector_count entry) (g.content entry))
+    pub most : g.keeps_model (disk_of store) → always_free_in (kept_of store) ≡ most_pages (g.sector_count entry) (g.content entry)
     -- and the device did not fail.
     pub calm : g.failures (disk_of store) ≡ g.failures entry
 
@@ -49,10 +48,9 @@ module _ {D : Type 0} (g : Ghosts D) where
     -- `Device` comes only where the device failed, and any other only where it did not;
     pub device : fault ≡ Device → g.failures entry < g.failures new
     pub err_calm : (fault ≡ Device → ⊥) → g.failures new ≡ g.failures entry
-    -- `BadLayout`, `BadJournal` and `SmallPool` come only where it is so, a bad layout before a bad journal,
+    -- `BadLayout` and `BadJournal` come only where it is so, a bad layout before a bad journal,
     pub bad_layout : g.keeps_model new → fault ≡ BadLayout → IsBadLayout (g.sector_count entry) (g.content entry)
     pub bad_journal : g.keeps_model new → fault ≡ BadJournal → IsBadJournal (g.sector_count entry) (g.content entry)
     pub layout_first : g.keeps_model new → fault ≡ BadJournal → IsBadLayout (g.sector_count entry) (g.content entry) → ⊥
-    pub small_pool : g.keeps_model new → fault ≡ SmallPool → HasSmallPool (g.content entry)
     -- and where the image is bad nothing was written.
     pub unwritten : g.keeps_model new → (fault ≡ BadLayout) ⊎ (fault ≡ BadJournal) → Touches g Nothing entry new

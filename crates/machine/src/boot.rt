@@ -17,7 +17,7 @@ use std::alloc::Global;
 use stores::{OpenFault, Store};
 use swap::Swap;
 use thiserror::Error;
-use vm_types::{Levels, MSYNC_PAGES};
+use vm_types::Levels;
 
 /// The fewest and the most frames.
 const MIN_FRAMES: u32 = 8;
@@ -51,13 +51,10 @@ pub enum BootFault {
     /// The journal is open with a map that no commit writes. Nothing was written.
     #[error("{}", OpenFault::BadJournal)]
     BadJournal = 6,
-    /// The pool of a store of layout 4 has fewer slots in a body than the 1,023 pages that an msync takes at most: its maps have one block or two.
-    #[error("SMALLPOOL")]
-    SmallPool = 7,
 }
 
 impl BootFault {
-    /// The number, 1 to 7.
+    /// The number, 1 to 6.
     pub fn number(self) -> u8
         ensures { result ≡ fault_number self }
     {
@@ -82,7 +79,7 @@ impl<D: SectorDisk, E: SectorDisk + Drop, M: Levels> Engine<D, E, M> {
     /// Starts the engine of that mode, as `Machine::boot` starts the machine that has it: of the configuration it reads the sizes
     /// alone, before the store is asked.
     ///
-    /// `Frames`, `Slots`, `BadLayout`, `BadJournal` and `SmallPool` come exactly where their texts say, unless another one
+    /// `Frames`, `Slots`, `BadLayout` and `BadJournal` come exactly where their texts say, unless another one
     /// comes first; `Device` exactly where the store device failed in this call. Each fault hands the store back.
     pub fn boot(
         alloc: Global,
@@ -114,12 +111,16 @@ impl<D: SectorDisk, E: SectorDisk + Drop, M: Levels> Engine<D, E, M> {
         let Ok(swap) = Swap::new(alloc, swap, config.slots) else {
             return Err((BootFault::OutOfMemory, store.into_disk()));
         };
+        let nodes = config.frames + config.slots;
+        let Ok(sync_room) = SyncRoom::new(alloc, store.always_free_pages(), nodes) else {
+            return Err((BootFault::OutOfMemory, store.into_disk()));
+        };
         match Core::new(alloc, store, swap, config.frames, config.slots) {
             Ok(core) => Ok(Engine {
                 core,
                 halted: false,
                 past,
-                sync_room: SyncRoom::new(),
+                sync_room,
                 region_room: RegionRoom::new(),
             }),
             Err((_, store)) => Err((BootFault::OutOfMemory, store.into_disk())),
@@ -127,7 +128,7 @@ impl<D: SectorDisk, E: SectorDisk + Drop, M: Levels> Engine<D, E, M> {
     }
 }
 
-/// Opens the store on a device, and makes room in it for as many pages as an msync takes at most.
+/// Opens the store on a device, and makes room in it for as many pages as every commit may take.
 fn open_store<D: SectorDisk>(alloc: Global, disk: D) -> Result<Store<D>, (BootFault, D)>
     ensures { MatchResult result (λ store. BootsStore D.SectorDisk disk store) (λ e. RefusesStore D.SectorDisk disk e.0 e.1) }
 {
@@ -135,9 +136,6 @@ fn open_store<D: SectorDisk>(alloc: Global, disk: D) -> Result<Store<D>, (BootFa
         Ok(store) => store,
         Err((fault, disk)) => return Err((BootFault::from(fault), disk)),
     };
-    if store.always_free_pages() < MSYNC_PAGES {
-        return Err((BootFault::SmallPool, store.into_disk()));
-    }
     match store.make_room() {
         Ok(()) => Ok(store),
         Err(DiskFault) => Err((BootFault::Device, store.into_disk())),

@@ -169,6 +169,7 @@ impl<D: SectorDisk, E: SectorDisk, M: Levels> Engine<D, E, M> {
         ensures answer { result ≡ answer }
         ensures core { self.new.core ≡ self.old.core }
         ensures halted { self.new.halted ≡ self.old.halted }
+        ensures room { self.new.sync_room ≡ self.old.sync_room }
         ensures past { ((fault : Fault) → answer ≡ Answer.Faulted fault → is_live (picture_of self.old.core) pid ≡ true)
             → self.new.past ≡ noted_fault pid (reply_of answer) self.old.past }
     {

@@ -2,7 +2,7 @@
 ghost use Rattle.std.specs.Prelude.{◌≡◌, false};
 ghost use Rattle.vm_types.specs.Replies.{reply_of};
 ghost use Rattle.vm_types.specs.declared.command.Command.TheVariants.{Msync};
-ghost use Rattle.msync.specs.Shows.{IsSoundCore};
+ghost use Rattle.msync.specs.Shows.{HasSyncRoom, IsSoundCore};
 ghost use Rattle.machine.specs.EngineCommands.{EngineCarriesOut};
 
 use crate::engine::Engine;
@@ -15,6 +15,7 @@ impl<D: SectorDisk, E: SectorDisk, M: Levels> Engine<D, E, M> {
     /// where a slot could not be read; then nothing has changed, and the machine goes on.
     pub(crate) fn msync(&mut self, pid: u64, addr: u64, len: u64, mode: MsyncMode) -> Answer
         requires going { IsSoundCore D.SectorDisk E.SectorDisk self.old.core }
+        requires room { HasSyncRoom D.SectorDisk self.old.core self.old.sync_room }
         requires running { self.old.halted ≡ false }
         ensures { EngineCarriesOut D.SectorDisk E.SectorDisk self.old self.new (Msync pid addr len mode) (reply_of result) }
     {

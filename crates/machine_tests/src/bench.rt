@@ -249,12 +249,11 @@ pub(crate) fn lived<D: SectorDisk, E: SectorDisk + Drop>(
     }
 }
 
-/// What a device holds: nothing, or a store of one file of one page of zeros, with one journal, or with a pool that is too small for a machine.
+/// What a device holds: nothing, or a store of one file of one page of zeros, with one journal.
 #[derive(Clone, Copy)]
 pub(crate) enum Contents {
     Nothing,
     Store,
-    SmallPool,
 }
 
 /// What a stop leaves of a device.
@@ -277,7 +276,6 @@ pub(crate) fn image(rt: &(impl AllocGlobal + Abort), contents: Contents) -> SimD
     let made = match contents {
         Contents::Nothing => Ok(()),
         Contents::Store => format(&mut disk, NewStore::Journals(Journals::Single), &mut files),
-        Contents::SmallPool => format(&mut disk, NewStore::Pool(1), &mut files),
     };
     made.expect(rt, "a store");
     left(rt, &disk, &[])

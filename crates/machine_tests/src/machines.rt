@@ -111,7 +111,6 @@ fn boots_are_refused(rt: HostRuntime) {
         (Contents::Nothing, 8, 17, 1, BootFault::Slots, 2),
         (Contents::Nothing, 8, 16, 1, BootFault::Device, 4),
         (Contents::Nothing, 8, 16, 0, BootFault::BadLayout, 5),
-        (Contents::SmallPool, 8, 16, 0, BootFault::SmallPool, 7),
     ] {
         let config = Config {
             frames,

@@ -1,9 +1,14 @@
 //! Where pages of files and objects are, and the touched ones.
 use crate::bench::equal;
-use page_cache::{PageCache, Place, TooMany};
+use page_cache::{FileRow, PageCache, Place, TooMany};
 use std::process::Abort;
 use std::test::Fail;
-use vm_types::{FilePage, FrameNo, MSYNC_PAGES, ObjectPage, PageKey, SlotNo};
+use vm_types::{FilePage, FrameNo, ObjectPage, PageKey, SlotNo};
+
+const FRAMES: u32 = 1100;
+
+// How many pages the list has room for.
+const ROOM: usize = 1023;
 
 fn file(file: u8, page: u32) -> PageKey {
     PageKey::File(FilePage { file, page })
@@ -67,7 +72,7 @@ fn a_page_goes_to_frames_to_slots_and_home(rt: HostRuntime) -> Result<(), Fail> 
 // last page that a file can have; page 6 of file 1 is in a frame and not touched.
 #[test]
 fn a_row_lists_its_touched_pages_once(rt: HostRuntime) -> Result<(), Fail> {
-    let mut cache = PageCache::new(rt.alloc(), 1100, 0)?;
+    let mut cache = PageCache::new(rt.alloc(), FRAMES, 0)?;
     for n in 0..1024 {
         let frame = Place::Frame(FrameNo(n));
         put(&rt, &mut cache, file(5, n), frame, true);
@@ -87,8 +92,11 @@ fn a_row_lists_its_touched_pages_once(rt: HostRuntime) -> Result<(), Fail> {
     ] {
         put(&rt, &mut cache, page, Place::Frame(FrameNo(n)), touched);
     }
+    assert!(&rt; cache.frames() + cache.slots() == FRAMES);
     let none = FilePage { file: 63, page: 0 };
-    let mut list = [none; MSYNC_PAGES];
+    let mut list = [none; ROOM];
+    let mut ranks = [7; FRAMES as usize];
+    let mut entries = 0;
     for (file, first, count, used, listed) in [
         // shorter than the touched pages: by the row
         (5, 1, 1023, 0, Ok(1023)),
@@ -108,9 +116,17 @@ fn a_row_lists_its_touched_pages_once(rt: HostRuntime) -> Result<(), Fail> {
         (3, 0, 2000, 4, Ok(4)),
         (1, 5, 0, 4, Ok(4)),
     ] {
-        assert!(&rt; used <= MSYNC_PAGES);
+        assert!(&rt; used <= entries);
         assert!(&rt; u64::from(first) + u64::from(count) <= 1 << 32);
-        let got = cache.dirty_in(FilePage { file, page: first }, count, &mut list, used);
+        let row = FileRow {
+            first: FilePage { file, page: first },
+            count,
+        };
+        let got = cache.dirty_in(row, &mut list, &mut ranks, used);
+        entries = match got {
+            Ok(n) => n,
+            Err(TooMany) => ROOM,
+        };
         equal(&rt, (file, first, count, got), (file, first, count, listed));
     }
     equal(

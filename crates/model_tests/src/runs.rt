@@ -9,7 +9,7 @@ use flat_model::Flat;
 use machine::{Config, Machine};
 use std::alloc::Global;
 use std::test::Fail;
-use sync_journal::Journals;
+use sync_journal::{Journals, PAGE_LIMIT};
 use vm_types::{Command, Mode, Reply, Stall};
 
 /// Commands of a run.
@@ -113,7 +113,7 @@ struct Told {
 
 /// A run of random commands.
 fn run(alloc: Global, setting: Setting, seed: u64) -> Result<Told, Fail> {
-    let mut flat = Flat::new(alloc, setting.config.mode, &[4096 * FILE_PAGES])?;
+    let mut flat = Flat::new(alloc, setting.config.mode, PAGE_LIMIT, &[4096 * FILE_PAGES])?;
     let mut machine = booted(alloc, setting.config, setting.failing)?;
     carry_out(&mut machine, setting, &mut flat, seed)
 }

@@ -1,9 +1,10 @@
 -- ListsTouched of file pages to which others are appended, each once.
-use Rattle.msync.{proofs.Names.{ℕ, ◌≡◌, ◌<◌, ◌≤◌, ◌⊎◌, ⊎_elim, Bool, true, List, [], Result, Ok, Err, refl, sym, ap, ◌∙◌, subst, arith, cases_lt, IfOk, FilePage}, specs.Choice.{chosen_page, Appends, OverflowsRow, ListsTouched}}
+use Rattle.msync.{proofs.Names.{ℕ, ◌≡◌, ◌<◌, ◌≤◌, ◌⊎◌, ⊎_elim, Bool, true, List, [], length, Result, Ok, Err, refl, sym, ap, ◌∙◌, subst, arith, cases_lt, IfOk, FilePage}, specs.Choice.{chosen_page, Appends, OverflowsRow, ListsTouched}}
 
 -- nothing passes
-pub nothing : (passes : FilePage → Bool) (list : List FilePage) (used : ℕ) → used ≤ 1023 → ((page : FilePage) → passes page ≡ true → ⊥) → Appends passes list list used used
+pub nothing : (passes : FilePage → Bool) (list : List FilePage) (used : ℕ) → used ≤ length list → ((page : FilePage) → passes page ≡ true → ⊥) → Appends passes list list used used
 nothing passes list used few none = record {
+  size = refl;
   order = omega arith;
   few = few;
   kept = λ i less. refl;
@@ -18,8 +19,9 @@ pub in_turn : (a b c : FilePage → Bool) (x y z : List FilePage) (u v w : ℕ)
     → ((p : FilePage) → c p ≡ true → (a p ≡ true) ⊎ (b p ≡ true))
     → Appends a x y u v → Appends b y z v w → Appends c x z u w
 in_turn a b c x y z u v w from_a from_b to f g = record {
+  size = g.size ∙ f.size;
   order = omega (arith, f.order, g.order);
-  few = g.few;
+  few = omega (arith, g.few, f.size);
   kept = λ i less. g.kept i (omega (arith, f.order)) ∙ f.kept i less;
   each = λ i low high.
       ⊎_elim (λ (less : i < v). from_a (chosen_page z i) (ap a (g.kept i less) ∙ f.each i low less))
@@ -36,6 +38,7 @@ in_turn a b c x y z u v w from_a from_b to f g = record {
 pub renamed : (a c : FilePage → Bool) (x y : List FilePage) (u v : ℕ)
     → ((p : FilePage) → a p ≡ true → c p ≡ true) → ((p : FilePage) → c p ≡ true → a p ≡ true) → Appends a x y u v → Appends c x y u v
 renamed a c x y u v from to f = record {
+  size = f.size;
   order = f.order;
   few = f.few;
   kept = f.kept;
@@ -53,11 +56,11 @@ over a b c x y u v from_a from_b f g = record {
   kept = λ i less. g.kept i (omega (arith, f.order)) ∙ f.kept i less;
   each = λ i low high.
       ⊎_elim (λ (less : i < v). from_a (g.at i) (ap a (g.kept i less) ∙ f.each i low less))
-      (λ (more : v ≤ i). from_b (g.at i) (g.each i more high))
+      (λ (more : v ≤ i). from_b (g.at i) (g.each i more (omega (arith, f.size, high))))
       (cases_lt i v);
   once = λ i j less low high.
       ⊎_elim (λ (below : j < v). λ e. f.once i j less low below (sym (g.kept i (omega arith)) ∙ e ∙ g.kept j below))
-      (λ (more : v ≤ j). g.once i j less more high)
+      (λ (more : v ≤ j). g.once i j less more (omega (arith, f.size, high)))
       (cases_lt j v);
 }
 
@@ -70,9 +73,14 @@ pub both_ok : {T E : Type 0} (P Q R : T → Type 0) (r : Result T E) → ((x : T
 both_ok P Q R (Ok x) f p q = f x p q
 both_ok P Q R (Err e) f p q = tt
 
--- from an empty list on the old one doesn't matter
-pub over_none : (a : FilePage → Bool) (x : List FilePage) → OverflowsRow a x 0 → OverflowsRow a [] 0
-over_none a x g = record { at = g.at; kept = λ i less. absurd (omega arith); each = g.each; once = g.once }
+-- where no place is used, what the list held doesn't matter
+pub over_none : (a : FilePage → Bool) (x y : List FilePage) → length y ≡ length x → OverflowsRow a x 0 → OverflowsRow a y 0
+over_none a x y size g = record {
+  at = g.at;
+  kept = λ i less. absurd (omega arith);
+  each = λ i low high. g.each i low (omega (arith, size, high));
+  once = λ i j less low high. g.once i j less low (omega (arith, size, high));
+}
 
 pub lists_none : (a : FilePage → Bool) (x : List FilePage) → ListsTouched a x 0 → ListsTouched a [] 0
 lists_none a x f = record {

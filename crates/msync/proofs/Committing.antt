@@ -9,16 +9,13 @@ use Rattle.msync.specs.{Choice.{TakesSame, IsListedPage, IsAway}, Core.{KeepsMem
 use Rattle.msync.specs.{Shows.{IsSoundCore, CoreShows}, Spots.{spot_at, place_at, bytes_there, IsSlotted, HasSlot, AreSpots, HasSpots}, declared.chosen.{Residence.{Residence, TheVariants.{Framed, Slotted}}, Spot.{Spot}}}
 use Rattle.{vm_types.specs.declared.reply.Reply.TheVariants.{Stalled}, file_store.specs.Layout.{padded_page as store_trimmed}}
 use Rattle.vm_types.specs.Msync as Flat
-use Rattle.msync.proofs.Names.{StoreKept, OfJournals, OfPool, files_in, least_in, free_in, always_free_in, HasRoomFor, directory_of, disk_of, msync_pages}
+use Rattle.msync.proofs.Names.{StoreKept, OfJournals, OfPool, files_in, least_in, free_in, always_free_in, HasRoom, directory_of, disk_of, kept_of}
 
 -- what stands at a place of a list
 some_get : (xs : List FilePage) (i : ℕ) (p : FilePage) → slice_get xs i ≡ Some p → (i < length xs) × (p ≡ chosen_page xs i)
 some_get xs i p e = (slice_get_within xs i p e, sym (get_or_from_slice_get xs i p first_page e))
 
 -- the pages of a commit, as they stand at the front of the list
-pub fits : {mode : ℕ} (c : Picture mode) (chosen : Chosen) → IsListedPage c chosen → chosen.count ≤ length chosen.list
-fits c chosen listed = omega (arith, listed.few, listed.room)
-
 pub front_length : (chosen : Chosen) → chosen.count ≤ length chosen.list → length (take chosen.count chosen.list) ≡ chosen.count
 front_length chosen fit = length-take-le chosen.count chosen.list fit
 
@@ -28,18 +25,18 @@ front_same chosen i less = get_or-take chosen.count chosen.list i first_page les
 pub front_touched : {mode : ℕ} (c : Picture mode) (chosen : Chosen) → IsListedPage c chosen → (i : ℕ) → i < length (take chosen.count chosen.list)
     → c.touched (File (chosen_page (take chosen.count chosen.list) i)) ≡ true
 front_touched c chosen listed i less =
-    let below : i < chosen.count = omega (arith, front_length chosen (fits c chosen listed)) in
+    let below : i < chosen.count = omega (arith, front_length chosen listed.few) in
     ap (λ q. c.touched (File q)) (front_same chosen i below) ∙ listed.touched i below
 
 front_once : {mode : ℕ} (c : Picture mode) (chosen : Chosen) → IsListedPage c chosen → (i j : ℕ) → i < j → j < length (take chosen.count chosen.list)
     → chosen_page (take chosen.count chosen.list) i ≢ chosen_page (take chosen.count chosen.list) j
 front_once c chosen listed i j less high e =
-    let below : j < chosen.count = omega (arith, front_length chosen (fits c chosen listed)) in
+    let below : j < chosen.count = omega (arith, front_length chosen listed.few) in
     listed.once i j less below (sym (front_same chosen i (omega arith)) ∙ e ∙ front_same chosen j below)
 
--- they are as many as an msync takes
-pub front_few : {mode : ℕ} (c : Picture mode) (chosen : Chosen) → IsListedPage c chosen → length (take chosen.count chosen.list) ≤ msync_pages
-front_few c chosen listed = omega (arith, front_length chosen (fits c chosen listed), listed.few)
+-- they are no more than there is room for
+pub front_few : {mode : ℕ} (c : Picture mode) (chosen : Chosen) (room : ℕ) → IsListedPage c chosen → chosen.count ≤ room → length (take chosen.count chosen.list) ≤ room
+front_few c chosen room listed few = omega (arith, front_length chosen listed.few, few)
 
 -- every store takes a commit of one page
 pub least_one : (kept : StoreKept) → least_in kept ≤ 1
@@ -47,13 +44,13 @@ least_one (OfJournals directory journal) = omega arith
 least_one (OfPool directory journal) = omega arith
 
 -- so they may be committed where there is room
-pub are_pages : {mode : ℕ} (c : Picture mode) (chosen : Chosen) (least most : ℕ) → least ≤ 1 → msync_pages ≤ most → IsFit c → IsListedPage c chosen
+pub are_pages : {mode : ℕ} (c : Picture mode) (chosen : Chosen) (least most : ℕ) → least ≤ 1 → chosen.count ≤ most → IsFit c → IsListedPage c chosen
     → ArePages c.files least most (take chosen.count chosen.list)
 are_pages c chosen least most one room fit listed =
     let front = take chosen.count chosen.list in
     record {
-      some = omega (arith, front_length chosen (fits c chosen listed), listed.some, one);
-      few = omega (arith, front_few c chosen listed, room);
+      some = omega (arith, front_length chosen listed.few, listed.some, one);
+      few = front_few c chosen most listed room;
       inside = λ i p e.
           let r = some_get front i p e in
           fit.places.inside (File p) (fit.dirty.held (File p) (ap (λ q. c.touched (File q)) r.1 ∙ front_touched c chosen listed i r.0));
@@ -61,16 +58,13 @@ are_pages c chosen least most one room fit listed =
     }
 
 -- there is room after them for as many
-pub room_next : (old new : StoreKept) (pages : ℕ) → HasRoomFor msync_pages old → pages ≤ msync_pages → (pages ≤ always_free_in old → always_free_in old ≤ free_in new)
-    → always_free_in new ≡ always_free_in old → HasRoomFor msync_pages new
-room_next old new pages had few room always = record {
-  next = (let more = room (omega (arith, few, had.always)) in omega (arith, more, had.always));
-  always = omega (arith, always, had.always);
-}
+pub room_next : (old new : StoreKept) (pages : ℕ) → pages ≤ always_free_in old → (pages ≤ always_free_in old → always_free_in old ≤ free_in new)
+    → always_free_in new ≡ always_free_in old → HasRoom new
+room_next old new pages few room always = (let more = room few in omega (arith, more, always))
 
 -- and there is where as much is left
-pub room_left : (old new : StoreKept) → HasRoomFor msync_pages old → free_in new ≡ free_in old → always_free_in new ≡ always_free_in old → HasRoomFor msync_pages new
-room_left old new had free always = record { next = omega (arith, free, had.next); always = omega (arith, always, had.always) }
+pub room_left : (old new : StoreKept) → HasRoom old → free_in new ≡ free_in old → always_free_in new ≡ always_free_in old → HasRoom new
+room_left old new had free always = omega (arith, had, free, always)
 
 -- they lie in their spots, each once
 pub are_spots : {mode : ℕ} (c : Picture mode) (chosen : Chosen) (list : List Spot) → IsListedPage c chosen → HasSpots c (take chosen.count chosen.list) list → AreSpots c list
@@ -320,6 +314,7 @@ module _ {D : Type 0} (g : Ghosts D) where
   -- what the store's commit says of these contents, as long as its source kept its model
   pub record StoreCommits (model : Type 0) (n : ℕ) (files : Files) (before after : Pages) (old new : Store D) : Type 0 where
     pub directory : directory_of new ≡ directory_of old
+    pub always : always_free_in (kept_of new) ≡ always_free_in (kept_of old)
     pub size : g.sector_count (disk_of new) ≡ g.sector_count (disk_of old)
     pub kept : g.keeps_model (disk_of new) → g.keeps_model (disk_of old)
     pub either : g.keeps_model (disk_of new) → model → LeavesNow g (disk_of old) (StandsFor n files before) → LeavesOnly g (disk_of old) (disk_of new) (StandsForEither n files before after)
@@ -349,6 +344,7 @@ module _ {M : Type 0} {m : Levels.Ghosts M} {D E : Type 0} (g : Ghosts D) (h : G
         let t_is : t ≡ (msync_outcome s (Flat.msync_ruling s pid addr len mode)).state = sym (ap (λ (r : Flat.Ruling). (msync_outcome s r).state) same.ruling) in
         let now : model → CoreShows g new t = λ m. record {
           pages = pages;
+          most = shows.most ∙ sym store.always;
           stands = λ k c may. subst (λ (x : ℕ). StandsFor x s.files t.durable c) (sym store.size) (ok k m (shows.stands (store.kept k)) c may);
         } in
         commit_ended Done (Acknowledged refl (subst (λ (x : State). ShowsPages (picture_of new) x) t_is pages) (subst (λ (x : State). model → CoreShows g new x) t_is now) sound)
@@ -365,6 +361,7 @@ module _ {M : Type 0} {m : Levels.Ghosts M} {D E : Type 0} (g : Ghosts D) (h : G
     commit_unread memory grew pages sound now moments =
         let still : CoreShows g new s = record {
           pages = pages;
+          most = shows.most ∙ sym store.always;
           stands = λ k c may. subst (λ (x : ℕ). StandsFor x s.files s.durable c) (sym store.size) (now k (shows.stands (store.kept k)) c may);
         } in
         commit_ended (Stalled SwapDevice) (Unread refl grew memory still sound (λ k. moments k (shows.stands (store.kept k))))

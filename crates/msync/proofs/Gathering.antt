@@ -1,5 +1,5 @@
 -- What is gathered from the cache, as it is appended.
-use Rattle.msync.proofs.Names.{ℕ, ◌+◌, ◌≡◌, ◌<◌, ◌≤◌, ◌==◌, ◌&&◌, ⊎_elim, true, false, leb, ltb, if◌then◌else◌, List, refl, sym, ap, ◌∙◌, arith, cases_lt, and_parts, and_from, nat_tests, file_page_limit, FilePage, File, Shared, CacheTable}
+use Rattle.msync.proofs.Names.{ℕ, ◌+◌, ◌≡◌, ◌<◌, ◌≤◌, ◌==◌, ◌&&◌, ⊎_elim, true, false, leb, ltb, if◌then◌else◌, List, length, refl, sym, ap, ◌∙◌, arith, cases_lt, and_parts, and_from, nat_tests, file_page_limit, FilePage, File, Shared, CacheTable}
 use Rattle.msync.{proofs.Names.{is_touched, IsTouchedIn, Gathers, HasAll}, specs.Choice.{of_files, chosen_page, in_file_row, is_taken_behind, AreInFiles, Appends, OverflowsRow}}
 use Rattle.page_cache.specs.Gathering as Cache
 
@@ -30,10 +30,11 @@ in_row_of t first count front p inside reaches e =
     record { row = (same, low, reaches p.page (inside p a.0) high); touched = a.0 }
 
 -- no more is gathered from the whole row than from such a front of it
-pub gathered : (t : CacheTable) (first : FilePage) (count front used : ℕ) (x y : List FilePage) → front ≤ count → Reaches first.page count front → AreInFiles (of_files (is_touched t))
-    → (n : ℕ) → Gathers t first.file first.page front used x y n → HasAll t first.file first.page front y n
+pub gathered : (t : CacheTable) (first : FilePage) (count front used : ℕ) (x y : List FilePage) (ranks : List ℕ) → front ≤ count → Reaches first.page count front
+    → AreInFiles (of_files (is_touched t)) → (n : ℕ) → Gathers t first.file first.page front used x y ranks n → HasAll t first.file first.page front y n
     → Appends (is_taken_behind (of_files (is_touched t)) (Shared first) count) x y used n
-gathered t first count front used x y less reaches inside n gathers all = record {
+gathered t first count front used x y ranks less reaches inside n gathers all = record {
+  size = gathers.size;
   order = gathers.longer;
   few = gathers.most;
   kept = gathers.kept;
@@ -42,24 +43,25 @@ gathered t first count front used x y less reaches inside n gathers all = record
   all = λ p e. all p (in_row_of t first count front p inside reaches e);
 }
 
-pub overflown : (t : CacheTable) (first : FilePage) (count front used : ℕ) (x y : List FilePage) → front ≤ count → used ≤ 1023 → Cache.Overflows t first.file first.page front used x y
-    → OverflowsRow (is_taken_behind (of_files (is_touched t)) (Shared first) count) x used
-overflown t first count front used x y short few over =
-    let at : ℕ → FilePage = λ i. if ltb i 1023 then chosen_page y i else over.missing in
-    let old : (i : ℕ) → i < 1023 → at i ≡ chosen_page y i = λ i less. let t : ltb i 1023 ≡ true = grind (arith, nat_tests) in rw t refl in
-    let new : (i : ℕ) → 1023 ≤ i → at i ≡ over.missing = λ i more. let t : ltb i 1023 ≡ false = grind (arith, nat_tests) in rw t refl in
+pub overflown : (t : CacheTable) (first : FilePage) (count front used : ℕ) (x y : List FilePage) (ranks : List ℕ) → front ≤ count
+    → Cache.Overflows t first.file first.page front used x y ranks → OverflowsRow (is_taken_behind (of_files (is_touched t)) (Shared first) count) x used
+overflown t first count front used x y ranks short over =
+    let most : ℕ = length x in
+    let at : ℕ → FilePage = λ i. if ltb i most then chosen_page y i else over.missing in
+    let old : (i : ℕ) → i < most → at i ≡ chosen_page y i = λ i less. let t : ltb i most ≡ true = grind (arith, nat_tests) in rw t refl in
+    let new : (i : ℕ) → most ≤ i → at i ≡ over.missing = λ i more. let t : ltb i most ≡ false = grind (arith, nat_tests) in rw t refl in
     let passes = is_taken_behind (of_files (is_touched t)) (Shared first) count in
     record {
       at = at;
-      kept = λ i less. old i (omega (arith, less, few)) ∙ over.full.kept i less;
+      kept = λ i less. old i (omega (arith, less, over.full.longer)) ∙ over.full.kept i less;
       each = λ i low high.
           ⊎_elim
-          (λ (less : i < 1023). ap passes (old i less) ∙ behind t first count front (chosen_page y i) short (over.full.touched i low less))
-          (λ (more : 1023 ≤ i). ap passes (new i more) ∙ behind t first count front over.missing short over.touched)
-          (cases_lt i 1023);
+          (λ (less : i < most). ap passes (old i less) ∙ behind t first count front (chosen_page y i) short (over.full.touched i low less))
+          (λ (more : most ≤ i). ap passes (new i more) ∙ behind t first count front over.missing short over.touched)
+          (cases_lt i most);
       once = λ i j less low high e.
           ⊎_elim
-          (λ (below : j < 1023). over.full.once i j less low below (sym (old i (omega arith)) ∙ e ∙ old j below))
-          (λ (more : 1023 ≤ j). over.absent (i, omega arith, sym (old i (omega arith)) ∙ e ∙ new j more))
-          (cases_lt j 1023);
+          (λ (below : j < most). over.full.once i j less low below (sym (old i (omega arith)) ∙ e ∙ old j below))
+          (λ (more : most ≤ j). over.absent (i, omega arith, sym (old i (omega arith)) ∙ e ∙ new j more))
+          (cases_lt j most);
     }

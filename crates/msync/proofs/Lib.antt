@@ -10,5 +10,6 @@ pub mod Homing
 pub mod Settled
 pub mod SettledPages
 pub mod Committing
+pub mod Rooms
 pub mod Asking
 pub mod Ends

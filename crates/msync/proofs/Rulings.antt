@@ -1,5 +1,5 @@
 -- How an msync is judged, as the flat model sees it.
-use Rattle.msync.proofs.{Appending.{lists_same}, Names.{ℕ, zero, suc, ◌+◌, ◌/◌, ◌%◌, ◌≡◌, ◌≢◌, ◌<◌, ◌^◌, ◌==◌, ◌&&◌, not, Bool, true, false, nat_lt, List, [], ◌∷◌, length, inl, inr, Option, Some, None, refl, sym, ap, ◌∙◌, arith, and_parts}}
+use Rattle.msync.proofs.{Appending.{lists_same}, Names.{ℕ, zero, suc, ◌+◌, ◌/◌, ◌%◌, ◌≡◌, ◌≢◌, ◌<◌, ◌≤◌, ◌^◌, ◌==◌, ◌&&◌, not, Bool, true, false, nat_lt, List, [], ◌∷◌, length, inl, inr, Option, Some, None, refl, sym, ap, ◌∙◌, arith, and_parts}}
 use Rattle.msync.proofs.Names.{nat_tests, option_map, MsyncMode, Sync, FileInfo, FilePage, File, ENOMEM, Attr, first_of, page_count, pages_from, any_below, shares, touched_in, touched_count, msync_ruling, row_ruling, or_else, is_covered}
 use Rattle.msync.{proofs.{Names.{State, View, attrs_of, Picture, entry, is_live, own_in, view_of, view, IsFit, ShowsPages, any-same}, Totals.{total, IsWithin, at_least, exactly}}, specs.Choice.{of_files}}
 use Rattle.msync.specs.{Choice.{chosen_page, shares_page, is_shared_in, is_chosen, OverflowsRow, ListsTouched, IsRulingOn, RulesSame, AreListed, AreTaken}, declared.chosen.Ruling.{Ruling, TheVariants.{Refuses, Passes, Takes}}}
@@ -58,11 +58,12 @@ module _ (touched : FilePage → Bool) (map : ℕ → Option Attr) (s : State) (
   unfolding touched_count total
   total_of first count = refl
 
-  too_many : (first count : ℕ) → IsWithin touched 64 (2 ^ 20) → OverflowsRow (is_chosen touched map first count) [] 0 → 1023 < touched_count s pid first count
-  too_many first count within over =
-      let n = at_least (λ page. touched_in s pid first count page.file page.page) 64 (2 ^ 20) over.at 1024 (taken_within first count within)
-      (λ i less. sym (taken_is_chosen first count (over.at i)) ∙ over.each i (omega arith) less)
-      (λ i j less high. over.once i j less (omega arith) high) in
+  too_many : (first count : ℕ) (list : List FilePage) → IsWithin touched 64 (2 ^ 20) → OverflowsRow (is_chosen touched map first count) list 0
+      → length list < touched_count s pid first count
+  too_many first count list within over =
+      let n = at_least (λ page. touched_in s pid first count page.file page.page) 64 (2 ^ 20) over.at (length list + 1) (taken_within first count within)
+      (λ i less. sym (taken_is_chosen first count (over.at i)) ∙ over.each i (omega arith) (omega (arith, less)))
+      (λ i j less high. over.once i j less (omega arith) (omega (arith, high))) in
       omega (arith, n, total_of first count)
 
   same_lists : (first count : ℕ) (list : List FilePage) (n : ℕ) → ListsTouched (is_chosen touched map first count) list n
@@ -104,17 +105,20 @@ module _ (touched : FilePage → Bool) (map : ℕ → Option Attr) (s : State) (
       → msync_ruling s pid addr len mode ≡ row_ruling s pid (addr / 4096) (page_count len) mode
   ruled_row addr len mode aligned some covered = ruling_after addr len mode aligned some ∙ rw (covered_of (addr / 4096) (page_count len) ∙ covered) refl
 
-  pub ruled_sync : (addr len : ℕ) (list : List FilePage) (r : Ruling) → IsWithin touched 64 (2 ^ 20) → addr % 4096 ≡ 0 → len ≢ 0
+  pub ruled_sync : (addr len : ℕ) (list : List FilePage) (r : Ruling) → s.most ≡ length list → IsWithin touched 64 (2 ^ 20) → addr % 4096 ≡ 0 → len ≢ 0
       → is_covered map (addr / 4096) (page_count len) ≡ true
       → IsRulingOn (is_chosen touched map (addr / 4096) (page_count len)) list r → RulesSame s pid addr len Sync list r
-  ruled_sync addr len list (Refuses errno) within aligned some covered choice =
-      let n = too_many (addr / 4096) (page_count len) within choice.1 in
-      let many : nat_lt 1023 (touched_count s pid (addr / 4096) (page_count len)) ≡ true = grind (arith, nat_tests, n) in
+  ruled_sync addr len list (Refuses errno) most within aligned some covered choice =
+      let n = too_many (addr / 4096) (page_count len) list within choice.1 in
+      let above : s.most < touched_count s pid (addr / 4096) (page_count len) = omega (arith, most, n) in
+      let many : nat_lt s.most (touched_count s pid (addr / 4096) (page_count len)) ≡ true = grind (arith, nat_tests, above) in
       ruled_row addr len Sync aligned some covered ∙ rw many (ap Flat.Refuses (sym choice.0))
-  ruled_sync addr len list Passes within aligned some covered choice =
-      ruled_row addr len Sync aligned some covered ∙ rw (count_of (addr / 4096) (page_count len) [] 0 within choice) refl
-  ruled_sync addr len list (Takes taken) within aligned some covered choice =
-      let few : nat_lt 1023 taken ≡ false = (let small = choice.1 in grind (arith, nat_tests)) in
+  ruled_sync addr len list Passes most within aligned some covered choice =
+      let few : nat_lt s.most 0 ≡ false = grind (arith, nat_tests) in
+      ruled_row addr len Sync aligned some covered ∙ rw (count_of (addr / 4096) (page_count len) [] 0 within choice) (rw few refl)
+  ruled_sync addr len list (Takes taken) most within aligned some covered choice =
+      let small : taken ≤ s.most = omega (arith, most, choice.1) in
+      let few : nat_lt s.most taken ≡ false = grind (arith, nat_tests, small) in
       let any : (taken == 0) ≡ false = (let some_chosen = choice.0 in grind (arith, nat_tests)) in
       record {
         first = addr / 4096;
@@ -123,16 +127,15 @@ module _ (touched : FilePage → Bool) (map : ℕ → Option Attr) (s : State) (
         lists = same_lists (addr / 4096) (page_count len) list taken choice.2;
       }
 
-pub listed_of : {mode : ℕ} (c : Picture mode) (map : ℕ → Option Attr) (first count : ℕ) (list : List FilePage) (r : Ruling) → length list ≡ 1023
+pub listed_of : {mode : ℕ} (c : Picture mode) (map : ℕ → Option Attr) (first count : ℕ) (list : List FilePage) (r : Ruling)
     → IsRulingOn (is_chosen (of_files c.touched) map first count) list r → AreListed c list r
-listed_of c map first count list (Takes taken) room choice = record {
+listed_of c map first count list (Takes taken) choice = record {
   some = choice.0;
   few = choice.1;
-  room = room;
   touched = λ i less. (and_parts (c.touched (File (chosen_page list i))) (is_shared_in map first count (chosen_page list i)) (choice.2.each i less)).0;
   once = choice.2.once;
 }
-listed_of c map first count list r room choice = tt
+listed_of c map first count list r choice = tt
 
 -- and that they are taken is told by the process's own pages
 chosen_same : (touched : FilePage → Bool) (a b : ℕ → Option Attr) (first count : ℕ) (page : FilePage) → ((k : ℕ) → a k ≡ b k) → is_chosen touched a first count page ≡ is_chosen touched b first count page

@@ -1,6 +1,6 @@
 -- What an msync takes of memory.
 use Rattle.std.specs.Prelude.{ℕ, ◌+◌, ◌/◌, ◌<◌, ◌≤◌, ◌≡◌, ◌≢◌, ◌==◌, ◌&&◌, Bool, true, false, List, [], length, get_or, Option, Some, None}
-use Rattle.vm_types.specs.Limits.{file_page_limit, msync_pages}
+use Rattle.vm_types.specs.Limits.{file_page_limit}
 use Rattle.vm_types.specs.declared.command.MsyncMode.{MsyncMode}
 use Rattle.vm_types.specs.declared.file.FilePage.{FilePage}
 use Rattle.vm_types.specs.declared.object.PageKey.{PageKey}
@@ -79,21 +79,22 @@ is_shared_in map first count page = any_below (λ i. shares_page (map (first + i
 abbrev pub is_chosen : (FilePage → Bool) → (ℕ → Option Attr) → ℕ → ℕ → FilePage → Bool
 is_chosen touched map first count page = touched page && is_shared_in map first count page
 
--- After the first used places of a list stand the file pages that pass and aren't among those, each once.
+-- After the first used places of a list, which is as long as it was, stand the file pages that pass and aren't among those, each once.
 pub record Appends (passes : FilePage → Bool) (old new : List FilePage) (used now : ℕ) : Type 0 where
+  pub size : length new ≡ length old
   pub order : used ≤ now
-  pub few : now ≤ msync_pages
+  pub few : now ≤ length old
   pub kept : (i : ℕ) → i < used → chosen_page new i ≡ chosen_page old i
   pub each : (i : ℕ) → used ≤ i → i < now → passes (chosen_page new i) ≡ true
   pub once : (i j : ℕ) → i < j → used ≤ j → j < now → chosen_page new i ≢ chosen_page new j
   pub all : (page : FilePage) → passes page ≡ true → (i : ℕ) × (i < now) × (chosen_page new i ≡ page)
 
--- That would be over 1,023: here are 1,024 such pages, those of the first used places included.
+-- That would be more than the list has places: here is one such page more, those of the first used places included.
 pub record OverflowsRow (passes : FilePage → Bool) (old : List FilePage) (used : ℕ) : Type 0 where
   pub at : ℕ → FilePage
   pub kept : (i : ℕ) → i < used → at i ≡ chosen_page old i
-  pub each : (i : ℕ) → used ≤ i → i < 1024 → passes (at i) ≡ true
-  pub once : (i j : ℕ) → i < j → used ≤ j → j < 1024 → at i ≢ at j
+  pub each : (i : ℕ) → used ≤ i → i ≤ length old → passes (at i) ≡ true
+  pub once : (i j : ℕ) → i < j → used ≤ j → j ≤ length old → at i ≢ at j
 
 -- The file pages in the list are those that pass, each once.
 pub record ListsTouched (passes : FilePage → Bool) (list : List FilePage) (count : ℕ) : Type 0 where
@@ -101,11 +102,11 @@ pub record ListsTouched (passes : FilePage → Bool) (list : List FilePage) (cou
   pub once : (i j : ℕ) → i < j → j < count → chosen_page list i ≢ chosen_page list j
   pub all : (page : FilePage) → passes page ≡ true → (i : ℕ) × (i < count) × (chosen_page list i ≡ page)
 
--- the touched pages of a row: over 1,023, none, or all of them
+-- the touched pages of a row: more than the list has places, none, or all of them
 abbrev pub IsRulingOn : (FilePage → Bool) → List FilePage → Ruling → Type 0
-IsRulingOn passes list (Refuses errno) = (errno ≡ ENOSPC) × OverflowsRow passes [] 0
+IsRulingOn passes list (Refuses errno) = (errno ≡ ENOSPC) × OverflowsRow passes list 0
 IsRulingOn passes list Passes = ListsTouched passes [] 0
-IsRulingOn passes list (Takes count) = (0 < count) × (count ≤ msync_pages) × ListsTouched passes list count
+IsRulingOn passes list (Takes count) = (0 < count) × (count ≤ length list) × ListsTouched passes list count
 
 -- what is taken is what the flat model takes
 pub record TakesSame (s : State) (pid addr len : ℕ) (mode : MsyncMode) (chosen : Chosen) : Type 0 where
@@ -124,8 +125,7 @@ RulesSame s pid addr len mode list (Takes count) = TakesSame s pid addr len mode
 module _ {mode : ℕ} where
   pub record IsListedPage (c : Picture mode) (chosen : Chosen) : Type 0 where
     pub some : 0 < chosen.count
-    pub few : chosen.count ≤ msync_pages
-    pub room : length chosen.list ≡ msync_pages
+    pub few : chosen.count ≤ length chosen.list
     pub touched : (i : ℕ) → i < chosen.count → c.touched (File (chosen_page chosen.list i)) ≡ true
     pub once : (i j : ℕ) → i < j → j < chosen.count → chosen_page chosen.list i ≢ chosen_page chosen.list j
 

@@ -3,6 +3,7 @@ pub mod Spots
 pub mod Reads
 pub mod Settling
 pub mod Shows
+pub mod Rooms
 pub mod Core
 pub mod Asking
 pub mod SyncEnds

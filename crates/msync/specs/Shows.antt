@@ -1,27 +1,40 @@
 -- How processes and files over a store are a state of the flat model, stops included.
+use Rattle.std.specs.Prelude.{ℕ, ◌+◌, ◌≤◌, ◌≡◌}
 use Rattle.vm_types.specs.declared.mode.Levels as Levels
 use Rattle.disk_model.specs.Moments.{LeavesNow}
 use Rattle.disk_model.specs.declared.sector_disk.SectorDisk.{Ghosts}
 use Rattle.stores.specs.Images.{StandsFor}
-use Rattle.stores.specs.Store.{kept_of, HasRoomFor, IsReadyStore, disk_of}
-use Rattle.vm_types.specs.Limits.{msync_pages}
-use Rattle.swap.specs.Slots.{IsReady}
+use Rattle.stores.specs.Store.{kept_of, always_free_in, HasRoom, IsReadyStore, disk_of}
+use Rattle.swap.specs.Slots.{slots_of, IsReady}
+use Rattle.frames.specs.FrameTable.{frame_count}
 use Rattle.vm_types.specs.State.{State}
 use Rattle.residency.specs.declared.kernel.Core.{Core}
 use Rattle.residency.specs.Parts.{IsFit}
 use Rattle.residency.specs.Picture.{picture_of}
 use Rattle.residency.specs.Shows.{ShowsPages}
 
+-- how many pages a room for an msync's pages has places for, and how many nodes of the page cache it has ranks for
+pub record RoomSize : Type 0 where
+  pub most : ℕ
+  pub ranks : ℕ
+
 module _ {M : Type 0} {m : Levels.Ghosts M} {D E : Type 0} (g : Ghosts D) where
-  -- The memory shows the state, and every image that a stop may leave now stands for its durable files.
+  -- The memory shows the state, an msync takes as many pages as the store always takes, and every image that a stop may leave now stands for the durable
+  -- files.
   pub record CoreShows (c : Core D E M m) (s : State) : Type 0 where
     pub pages : ShowsPages (picture_of c) s
+    pub most : s.most ≡ always_free_in (kept_of c.store)
     pub stands : g.keeps_model (disk_of c.store) → LeavesNow g (disk_of c.store) (StandsFor (g.sector_count (disk_of c.store)) s.files s.durable)
+
+  -- The room for an msync's pages has places for as many as the store takes at once, and a rank for each frame and each slot.
+  pub record HasSyncRoom (c : Core D E M m) (room : RoomSize) : Type 0 where
+    pub most : room.most ≡ always_free_in (kept_of c.store)
+    pub ranks : frame_count c.frames + (slots_of c.swap).total ≤ room.ranks
 
   module _ (h : Ghosts E) where
     -- between two calls: the store may be read, and committed to as often as msync asks, slots may be put and got, and memory is fit
     pub record IsSoundCore (c : Core D E M m) : Type 0 where
       pub ready : IsReadyStore g c.store
-      pub room : HasRoomFor msync_pages (kept_of c.store)
+      pub room : HasRoom (kept_of c.store)
       pub swap : IsReady h c.swap
       pub fit : IsFit (picture_of c)

@@ -26,7 +26,7 @@ use Rattle.msync.specs.Choice.{Chosen, IsAway, TakesAway, TakesSame}
 use Rattle.msync.specs.Core.{Commits, GivesBack}
 use Rattle.msync.specs.Settling.{SettlesMemory}
 use Rattle.msync.specs.Shows.{IsSoundCore, CoreShows}
-use Rattle.stores.specs.Store.{IsUsedIn, disk_of, kept_of}
+use Rattle.stores.specs.Store.{IsUsedIn, always_free_in, disk_of, kept_of}
 
 module _ {M : Type 0} {m : Levels.Ghosts M} {D E : Type 0} (g : Ghosts D) (h : Ghosts E) where
   -- Whatever comes of a commit, of whose pages one lies in a slot only where that holds:
@@ -36,9 +36,10 @@ module _ {M : Type 0} {m : Levels.Ghosts M} {D E : Type 0} (g : Ghosts D) (h : G
     pub frames : frame_count new.frames ≡ frame_count old.frames
     pub slots : (slots_of new.swap).total ≡ (slots_of old.swap).total
     pub memory : SettlesMemory (picture_of old) (picture_of new)
-    -- the store, as large as it was, may be committed to further, unless it failed,
+    -- the store, as large as it was, and always taking as many pages, may be committed to further, unless it failed,
     pub ready : result ≢ Refused EIO → IsSoundCore g h new
     pub size : g.sector_count (disk_of new.store) ≡ g.sector_count (disk_of old.store)
+    pub always : always_free_in (kept_of new.store) ≡ always_free_in (kept_of old.store)
     pub kept : g.keeps_model (disk_of new.store) → g.keeps_model (disk_of old.store)
     -- and so may swap, which is read, and given slots back, only where a page lies in one;
     pub swap : IsReady h new.swap

@@ -1,20 +1,24 @@
 //! How an msync is judged, and which file pages it takes: the touched ones behind the shared pages of its range.
-ghost use Rattle.std.specs.Prelude.{◌≡◌, ◌≤◌, ◌<◌, ◌+◌, ◌-◌, ◌^◌, ℕ, IfOk, OnErr};
-ghost use Rattle.vm_types.specs.Limits.{msync_pages};
+ghost use Rattle.std.specs.Prelude.{◌≡◌, ◌≤◌, ◌<◌, ◌+◌, ◌-◌, ◌^◌, ℕ, length, IfOk, OnErr};
 ghost use Rattle.vm_types.specs.Attributes.{backing_fits};
 ghost use Rattle.vm_types.specs.State.{State};
 ghost use Rattle.regions.specs.RunList.{attr_at};
-ghost use Rattle.page_cache.specs.CacheTable.{is_touched};
+ghost use Rattle.frames.specs.FrameTable.{frame_count};
+ghost use Rattle.swap.specs.Slots.{slots_of};
+ghost use Rattle.page_cache.specs.CacheTable.{cache_frames, slot_count, is_touched};
+ghost use Rattle.page_cache.specs.Gathering.{IsGathering};
 ghost use Rattle.residency.specs.Picture.{picture_of};
 ghost use Rattle.residency.specs.Parts.{IsFit};
 ghost use Rattle.residency.specs.Shows.{ShowsPages};
 ghost use Rattle.msync.specs.Choice.{of_files, is_taken_behind, is_chosen, AreInFiles, MayBeChosen, Appends, OverflowsRow, IsRulingOn, RulesSame, AreListed, AreTaken, IsNoDeviceFault};
+ghost use Rattle.msync.specs.Rooms.{size_of};
 
 use crate::chosen::{Ruling, SyncCall};
-use page_cache::{PageCache, TooMany};
+use crate::room::PageList;
+use page_cache::{FileRow, PageCache, TooMany};
 use regions::Regions;
 use residency::Core;
-use vm_types::{Backing, Errno, FilePage, Levels, MSYNC_PAGES, MsyncMode, PAGE_BYTES};
+use vm_types::{Backing, Errno, Levels, MsyncMode, PAGE_BYTES};
 
 /// Bytes of a page, as a number of addresses.
 const PAGE: u64 = PAGE_BYTES as u64;
@@ -23,13 +27,16 @@ const PAGE: u64 = PAGE_BYTES as u64;
 pub(crate) fn rule<D, E, M: Levels>(
     core: &Core<D, E, M>,
     call: SyncCall,
-    list: &mut [FilePage; MSYNC_PAGES],
+    list: &mut PageList,
 ) -> Ruling
     requires fit { IsFit (picture_of core.now) }
-    ensures same { (s : State) → ShowsPages (picture_of core.now) s → RulesSame s call.pid call.addr call.len call.mode list.new result }
-    ensures listed { AreListed (picture_of core.now) list.new result }
-    ensures taken { AreTaken (picture_of core.now) call.pid call.addr call.len list.new result }
+    requires ranks { frame_count core.now.frames + (slots_of core.now.swap).total ≤ length list.old.ranks.items }
+    ensures same { (s : State) → ShowsPages (picture_of core.now) s → s.most ≡ length list.old.pages.items
+        → RulesSame s call.pid call.addr call.len call.mode list.new.pages.items result }
+    ensures listed { AreListed (picture_of core.now) list.new.pages.items result }
+    ensures taken { AreTaken (picture_of core.now) call.pid call.addr call.len list.new.pages.items result }
     ensures no_fault { IsNoDeviceFault result }
+    ensures size { size_of list.new ≡ size_of list.old }
 {
     let SyncCall {
         pid,
@@ -58,17 +65,19 @@ pub(crate) fn rule<D, E, M: Levels>(
     }
 }
 
-/// The touched pages of the row of `count` pages from `first` on: `ENOSPC` where there are more than one msync takes.
+/// The touched pages of the row of `count` pages from `first` on: `ENOSPC` where there are more than the list has room for.
 fn choose<M: Levels>(
     regions: &Regions<M>,
     cache: &PageCache,
     first: u64,
     count: u64,
-    list: &mut [FilePage; MSYNC_PAGES],
+    list: &mut PageList,
 ) -> Ruling
-    requires room { first + count < 2 ^ 64 }
+    requires row { first + count < 2 ^ 64 }
     requires pages { MayBeChosen M.mode (attr_at regions.now) (of_files (is_touched cache.now)) }
-    ensures { IsRulingOn (is_chosen (of_files (is_touched cache.now)) (attr_at regions.now) first count) list.new result }
+    requires ranks { cache_frames cache.now + slot_count cache.now ≤ length list.old.ranks.items }
+    ensures ruling { IsRulingOn (is_chosen (of_files (is_touched cache.now)) (attr_at regions.now) first count) list.new.pages.items result }
+    ensures size { size_of list.new ≡ size_of list.old }
 {
     match choose_between(regions, cache, first, first + count, list) {
         Err(TooMany) => Ruling::Refuses(Errno::ENOSPC),
@@ -78,18 +87,20 @@ fn choose<M: Levels>(
 }
 
 /// Lists the touched pages behind the pages from `first` up to, not including, `end`, run by run, and returns how many there
-/// are; `TooMany` exactly where that would be over 1,023.
+/// are; `TooMany` exactly where those are more than the list has room for.
 fn choose_between<M: Levels>(
     regions: &Regions<M>,
     cache: &PageCache,
     first: u64,
     end: u64,
-    list: &mut [FilePage; MSYNC_PAGES],
+    list: &mut PageList,
 ) -> Result<usize, TooMany>
     requires order { first ≤ end }
     requires pages { MayBeChosen M.mode (attr_at regions.now) (of_files (is_touched cache.now)) }
-    ensures ok { IfOk result (Appends (is_chosen (of_files (is_touched cache.now)) (attr_at regions.now) first (end - first)) list.old list.new 0) }
-    ensures too_many { OnErr result (OverflowsRow (is_chosen (of_files (is_touched cache.now)) (attr_at regions.now) first (end - first)) list.old 0) }
+    requires ranks { cache_frames cache.now + slot_count cache.now ≤ length list.old.ranks.items }
+    ensures ok { IfOk result (Appends (is_chosen (of_files (is_touched cache.now)) (attr_at regions.now) first (end - first)) list.old.pages.items list.new.pages.items 0) }
+    ensures too_many { OnErr result (OverflowsRow (is_chosen (of_files (is_touched cache.now)) (attr_at regions.now) first (end - first)) list.old.pages.items 0) }
+    ensures size { size_of list.new ≡ size_of list.old }
 {
     let mut count = 0;
     let mut page = first;
@@ -110,21 +121,24 @@ fn choose_behind(
     cache: &PageCache,
     backing: Backing,
     count: u64,
-    list: &mut [FilePage; MSYNC_PAGES],
+    list: &mut PageList,
     used: usize,
 ) -> Result<usize, TooMany>
     requires row { backing_fits backing count }
     requires inside { AreInFiles (of_files (is_touched cache.now)) }
-    requires few { used ≤ msync_pages }
-    ensures ok { IfOk result (Appends (is_taken_behind (of_files (is_touched cache.now)) backing count) list.old list.new used) }
-    ensures too_many { OnErr result (OverflowsRow (is_taken_behind (of_files (is_touched cache.now)) backing count) list.old used) }
+    requires gathering { IsGathering cache.now list.old.pages.items list.old.ranks.items used }
+    ensures ok { IfOk result (Appends (is_taken_behind (of_files (is_touched cache.now)) backing count) list.old.pages.items list.new.pages.items used) }
+    ensures next { IfOk result (IsGathering cache.now list.new.pages.items list.new.ranks.items) }
+    ensures too_many { OnErr result (OverflowsRow (is_taken_behind (of_files (is_touched cache.now)) backing count) list.old.pages.items used) }
+    ensures size { size_of list.new ≡ size_of list.old }
 {
     match backing {
         Backing::Anon | Backing::Private(_) | Backing::Common(_) => Ok(used),
         Backing::Shared(first) => {
             // A row may have 2 ^ 32 pages, one more than a u32 tells. No file is long enough for the last of them.
             let count = count.min(u64::from(u32::MAX)) as u32;
-            cache.dirty_in(first, count, list, used)
+            let row = FileRow { first, count };
+            cache.dirty_in(row, &mut list.pages, &mut list.ranks, used)
         }
     }
 }

@@ -1,13 +1,13 @@
 //! msync: file pages made durable through the store.
 ghost use Rattle.std.specs.Prelude.{◌≡◌, ◌≤◌, ◌<◌, ℕ, true, length, take};
-ghost use Rattle.vm_types.specs.Limits.{msync_pages};
 ghost use Rattle.vm_types.specs.declared.object.PageKey.TheVariants.{File};
 ghost use Rattle.swap.specs.Slots.{slots_of};
 ghost use Rattle.residency.specs.Picture.{picture_of};
 ghost use Rattle.residency.specs.Parts.{IsFit};
 ghost use Rattle.msync.specs.SyncEnds.{CommitsListed, SyncsBytes};
 ghost use Rattle.msync.specs.Choice.{chosen_of, IsListedPage, chosen_page};
-ghost use Rattle.msync.specs.Shows.{IsSoundCore};
+ghost use Rattle.msync.specs.Shows.{HasSyncRoom, IsSoundCore};
+ghost use Rattle.stores.specs.Store.{always_free_in, kept_of};
 ghost use Rattle.msync.specs.Spots.{HasSpots, HoldsTouched, IsSpot, bytes_there};
 
 use crate::choosing::rule;
@@ -19,7 +19,7 @@ use disk_model::SectorDisk;
 use page_cache::Place;
 use residency::Core;
 use sync_journal::CommitFault;
-use vm_types::{Answer, Errno, FilePage, Levels, MSYNC_PAGES, PageKey, Stall};
+use vm_types::{Answer, Errno, FilePage, Levels, PageKey, Stall};
 
 /// Makes the touched pages of a range durable, all at once and over all files (msync(2); Park, Kelly and Shen, Failure-Atomic
 /// msync, EuroSys 2013): the file pages, stored to and not made durable since, that stand behind the shared pages which hold
@@ -28,10 +28,10 @@ use vm_types::{Answer, Errno, FilePage, Levels, MSYNC_PAGES, PageKey, Stall};
 /// asked; else the store for its journal and the homes of pages that leave it alone, and swap for the slots of those pages alone.
 ///
 /// `ESRCH` where no such process lives, `EINVAL` where `addr` is no multiple of 4,096, `ENOMEM` where a page of the range
-/// isn't mapped, `ENOSPC` where there are more than 1,023 such pages; nothing is changed then. `EIO` comes exactly where the
-/// store failed in this call, which then isn't to be called again; memory is as it was. `SwapDevice` comes exactly where a slot
-/// that one of those pages lies in could not be read: nothing has become durable then, memory is as it was, and the call may be
-/// made again.
+/// isn't mapped, `ENOSPC` where there are more such pages than the store always takes at once: 1,023 of layouts 2 and 3, and of
+/// layout 4 as many as a body of its pool has slots; nothing is changed then. `EIO` comes exactly where the store failed in this
+/// call, which then isn't to be called again; memory is as it was. `SwapDevice` comes exactly where a slot that one of those
+/// pages lies in could not be read: nothing has become durable then, memory is as it was, and the call may be made again.
 ///
 /// What becomes durable of a page in a slot is what was put there as long as the swap device keeps its model. Its time is that of
 /// the touched pages times the runs of all processes, however long they are.
@@ -41,13 +41,14 @@ pub fn msync<D: SectorDisk, E: SectorDisk, M: Levels>(
     call: SyncCall,
 ) -> Answer
     requires sound { IsSoundCore D.SectorDisk E.SectorDisk core.old }
-    ensures { SyncsBytes D.SectorDisk E.SectorDisk core.old core.new call.pid call.addr call.len call.mode result }
+    requires room { HasSyncRoom D.SectorDisk core.old room.old }
+    ensures syncs { SyncsBytes D.SectorDisk E.SectorDisk core.old core.new call.pid call.addr call.len call.mode result }
+    ensures room { room.new ≡ room.old }
 {
-    let list = room.pages.list();
-    match rule(core, call, list) {
+    match rule(core, call, &mut room.list) {
         Ruling::Refuses(errno) => Answer::Refused(errno),
         Ruling::Passes => Answer::Done,
-        Ruling::Takes(count) => commit(core, list, count, room.spots.list()),
+        Ruling::Takes(count) => commit(core, &room.list.pages, count, &mut room.spots),
     }
 }
 
@@ -55,12 +56,14 @@ pub fn msync<D: SectorDisk, E: SectorDisk, M: Levels>(
 /// it was.
 fn commit<D: SectorDisk, E: SectorDisk, M: Levels>(
     core: &mut Core<D, E, M>,
-    list: &[FilePage; MSYNC_PAGES],
+    list: &[FilePage],
     count: usize,
-    spots: &mut [Spot; MSYNC_PAGES],
+    spots: &mut [Spot],
 ) -> Answer
     requires sound { IsSoundCore D.SectorDisk E.SectorDisk core.old }
     requires listed { IsListedPage (picture_of core.old) (chosen_of list.now count) }
+    requires few { count ≤ always_free_in (kept_of core.old.store) }
+    requires room { count ≤ length spots.old }
     ensures { CommitsListed D.SectorDisk E.SectorDisk core.old core.new (chosen_of list.now count) result }
 {
     let list = &list[..count];
@@ -82,13 +85,9 @@ fn commit<D: SectorDisk, E: SectorDisk, M: Levels>(
 }
 
 /// Puts the places that touched pages lie in to the front of a list.
-fn fill_spots<D, E, M: Levels>(
-    core: &Core<D, E, M>,
-    pages: &[FilePage],
-    spots: &mut [Spot; MSYNC_PAGES],
-)
+fn fill_spots<D, E, M: Levels>(core: &Core<D, E, M>, pages: &[FilePage], spots: &mut [Spot])
     requires fit { IsFit (picture_of core.now) }
-    requires few { length pages.now ≤ msync_pages }
+    requires room { length pages.now ≤ length spots.old }
     requires touched { (i : ℕ) → i < length pages.now → (picture_of core.now).touched (File (chosen_page pages.now i)) ≡ true }
     ensures { HasSpots (picture_of core.now) pages.now (take (length pages.now) spots.new) }
 {

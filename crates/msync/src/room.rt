@@ -1,69 +1,56 @@
 //! Room for the pages of an msync. No clause says what it holds, so it is never cleared.
-use crate::chosen::{Residence, Spot};
-use std::marker::Model;
-use vm_types::{FilePage, FrameNo, MSYNC_PAGES};
+ghost use Rattle.std.specs.Prelude.{◌≡◌, IfOk};
 
-/// Room for one msync after the other.
+use crate::chosen::{Residence, Spot};
+use std::alloc::{AllocError, Global};
+use std::marker::Model;
+use vm_types::{FilePage, FrameNo};
+
+/// Room for one msync after the other. In contracts it is how much it has room for.
 #[derive(Drop)]
 pub struct SyncRoom {
-    pub(crate) pages: PageRoom,
-    pub(crate) spots: SpotRoom,
+    /// The pages that are taken.
+    pub(crate) list: PageList,
+    /// The places that they lie in.
+    pub(crate) spots: Vec<Spot>,
 }
 
 impl Model for SyncRoom {
-    ghost Value = { Unit {0} };
+    ghost use Rattle.std.specs.Prelude.{◌≡◌, length};
+    ghost use Rattle.msync.specs.Shows.{RoomSize};
+    ghost use Rattle.msync.specs.Rooms.{size_of};
 
-    ghost view = { λ _. tt };
+    ghost Value = { RoomSize };
+
+    ghost view = { λ r. size_of r.list };
+
+    ghost invariant = { λ r. length r.spots.items ≡ length r.list.pages.items };
 }
 
 impl SyncRoom {
-    /// Room that holds anything.
-    pub fn new() -> SyncRoom {
+    /// Room for `most` pages, which are to be as many as the store always takes at once, of a memory of `nodes` frames and slots of
+    /// swap in all. It takes 24 bytes for each page, and 4 for each frame and each slot; no later call takes memory of the host.
+    ///
+    /// # Errors
+    /// `AllocError` where the host has not enough memory.
+    pub fn new(alloc: Global, most: usize, nodes: u32) -> Result<SyncRoom, AllocError>
+        ensures { IfOk result (λ room. room ≡ record { most = most; ranks = nodes }) }
+    {
         let page = FilePage { file: 0, page: 0 };
         let at = Residence::Framed(FrameNo(0));
-        SyncRoom {
-            pages: PageRoom {
-                list: [page; MSYNC_PAGES],
-            },
-            spots: SpotRoom {
-                list: [Spot { page, at }; MSYNC_PAGES],
-            },
-        }
+        let pages = Vec::from_elem(alloc, page, most)?;
+        let ranks = Vec::from_elem(alloc, 0, nodes as usize)?;
+        let spots = Vec::from_elem(alloc, Spot { page, at }, most)?;
+        Ok(SyncRoom {
+            list: PageList { pages, ranks },
+            spots,
+        })
     }
 }
 
-/// Room for the pages that an msync takes.
+/// Room for a list of pages, and for the rank in it of the page that each frame and each slot holds.
 #[derive(Drop)]
-pub(crate) struct PageRoom {
-    list: [FilePage; MSYNC_PAGES],
-}
-
-impl Model for PageRoom {
-    ghost Value = { Unit {0} };
-
-    ghost view = { λ _. tt };
-}
-
-impl PageRoom {
-    pub(crate) fn list(&mut self) -> &mut [FilePage; MSYNC_PAGES] {
-        &mut self.list
-    }
-}
-
-/// Room for the places that they lie in.
-#[derive(Drop)]
-pub(crate) struct SpotRoom {
-    list: [Spot; MSYNC_PAGES],
-}
-
-impl Model for SpotRoom {
-    ghost Value = { Unit {0} };
-
-    ghost view = { λ _. tt };
-}
-
-impl SpotRoom {
-    pub(crate) fn list(&mut self) -> &mut [Spot; MSYNC_PAGES] {
-        &mut self.list
-    }
+pub(crate) struct PageList {
+    pub pages: Vec<FilePage>,
+    pub ranks: Vec<u32>,
 }

@@ -49,6 +49,15 @@ unfolding count_below
 count-none passes zero none = refl
 count-none passes (suc c) none = rw (none c (omega arith), count-none passes c (λ k below. none k (omega arith))) refl
 
+-- no more pass than there are
+pub count-most : (passes : ℕ → Bool) (c : ℕ) → count_below passes c ≤ c
+unfolding count_below
+count-most passes zero = omega arith
+count-most passes (suc c) = let rest = count-most passes c in elim (cases_Bool (passes c)) [
+  | inl here ↦ rw here (omega (arith, rest))
+  | inr fails ↦ rw fails (omega (arith, rest))
+]
+
 -- m different numbers that pass
 pub count-at_least : (m : ℕ) (f : ℕ → ℕ) (passes : ℕ → Bool) (c : ℕ) → ((i : ℕ) → i < m → (f i < c) × (passes (f i) ≡ true))
     → ((i j : ℕ) → i < j → j < m → f i ≢ f j) → m ≤ count_below passes c

@@ -1,5 +1,5 @@
 -- A gathered list has as many entries as its row has fresh pages.
-use Rattle.std.proofs.{Common.{◌≡◌, ◌≢◌, ℕ, ◌+◌, ◌-◌, ◌<◌, ◌≤◌, ◌↔◌, Bool, true, false, not, cond, ltb, List, refl, sym, ap, ◌∙◌, inl, inr, arith, Result, Ok, Err, IsErr, IfOk, OnErr}, lemmas.Bool.{cases_lt, cases_Bool, both_ways}}
+use Rattle.std.proofs.{Common.{◌≡◌, ◌≢◌, ℕ, ◌+◌, ◌-◌, ◌<◌, ◌≤◌, ◌↔◌, Bool, true, false, not, cond, ltb, List, length, refl, sym, ap, ◌∙◌, inl, inr, arith, Result, Ok, Err, IsErr, IfOk, OnErr}, lemmas.Bool.{cases_lt, cases_Bool, both_ways}}
 use Rattle.{std.proofs.lemmas.Bool.{and_parts, and_from, not-true, not_from_false, false≢true, lt-ltb, le-ltb}, vm_types.{proofs.Naming.{any-at}, specs.{Attributes.{file_page_eq}, declared.file.FilePage.{FilePage}}}}
 use Rattle.{vm_types.specs.declared.object.PageKey.TheVariants.{File}, page_cache.{proofs.{CountLemmas.{count-at_least, count-at_most, any_below-none}, NodeLemmas.{same_file_page, same_file_page_true}}, specs.CacheTable.{CacheTable}}}
 use Rattle.page_cache.specs.{CacheTable.{is_touched}, Gathering.{IsTouchedIn, index_entry, IsListed, is_listed, is_fresh, fresh_count, Gathers, HasAll, Overflows}, declared.place.TooMany.{TooMany}}
@@ -16,6 +16,9 @@ listed-is list n page listed =
     any-at (λ i. file_page_eq (index_entry list i) page) n listed.0 listed.1 (ap (λ (p : FilePage). file_page_eq p page) listed.2 ∙ same_file_page_true page)
 
 module _ (t : CacheTable) (file first count used : ℕ) (old : List FilePage) where
+  abbrev room : ℕ
+  room = length old
+
   -- the page of the row at that offset
   abbrev in_row : ℕ → FilePage
   in_row k = record { file = file; page = first + k }
@@ -44,12 +47,12 @@ module _ (t : CacheTable) (file first count used : ℕ) (old : List FilePage) wh
       (λ i j less below e. apart i j less below (row_page (g i) (there i (omega arith)) ∙ ap in_row e ∙ sym (row_page (g j) (there j below))))
 
   -- an entry from `used` on isn't among the first `used`
-  not_before : (new : List FilePage) (n i : ℕ) → Gathers t file first count used old new n → used + i < n → IsListed old used (index_entry new (used + i)) → ⊥
-  not_before new n i g below listed = g.once listed.0 (used + i) (omega (arith, listed.1)) (omega arith) below (g.kept listed.0 listed.1 ∙ listed.2)
+  not_before : (new : List FilePage) (ranks : List ℕ) (n i : ℕ) → Gathers t file first count used old new ranks n → used + i < n → IsListed old used (index_entry new (used + i)) → ⊥
+  not_before new ranks n i g below listed = g.once listed.0 (used + i) (omega (arith, listed.1)) (omega arith) below (g.kept listed.0 listed.1 ∙ listed.2)
 
-  at_most : (new : List FilePage) (n : ℕ) → Gathers t file first count used old new n → HasAll t file first count new n → fresh_count t file first count old used ≤ n - used
+  at_most : (new : List FilePage) (ranks : List ℕ) (n : ℕ) → Gathers t file first count used old new ranks n → HasAll t file first count new n → fresh_count t file first count old used ≤ n - used
   unfolding fresh_count
-  at_most new n g all =
+  at_most new ranks n g all =
       count-at_most (n - used) (λ i. (index_entry new (used + i)).page - first) passes count (λ k below here. (
       let parts = and_parts (is_touched t (File (in_row k))) (not (is_listed old used (in_row k))) here in
       let unlisted = not-true (is_listed old used (in_row k)) parts.1 in
@@ -60,50 +63,50 @@ module _ (t : CacheTable) (file first count used : ℕ) (old : List FilePage) wh
       ]
       ))
 
-  pub length_exact : (new : List FilePage) (n : ℕ) → Gathers t file first count used old new n → HasAll t file first count new n
+  pub length_exact : (new : List FilePage) (ranks : List ℕ) (n : ℕ) → Gathers t file first count used old new ranks n → HasAll t file first count new n
       → n ≡ used + fresh_count t file first count old used
-  length_exact new n g all =
+  length_exact new ranks n g all =
       let least = at_least (n - used) (λ i. index_entry new (used + i)) (λ i below. g.touched (used + i) (omega arith) (omega arith))
-      (λ i below. not_before new n i g (omega arith)) (λ i j less below. g.once (used + i) (used + j) (omega arith) (omega arith) (omega arith)) in
-      omega (arith, g.longer, least, at_most new n g all)
+      (λ i below. not_before new ranks n i g (omega arith)) (λ i j less below. g.once (used + i) (used + j) (omega arith) (omega arith) (omega arith)) in
+      omega (arith, g.longer, least, at_most new ranks n g all)
 
   -- the new entries of a full list, and then the page that is missing
   picked : List FilePage → FilePage → ℕ → FilePage
-  picked new missing i = cond (ltb i (1023 - used)) (index_entry new (used + i)) missing
+  picked new missing i = cond (ltb i (room - used)) (index_entry new (used + i)) missing
 
-  picked-entry : (new : List FilePage) (missing : FilePage) (i : ℕ) → i < 1023 - used → picked new missing i ≡ index_entry new (used + i)
+  picked-entry : (new : List FilePage) (missing : FilePage) (i : ℕ) → i < room - used → picked new missing i ≡ index_entry new (used + i)
   unfolding picked
-  picked-entry new missing i below = rw (lt-ltb i (1023 - used) below) refl
+  picked-entry new missing i below = rw (lt-ltb i (room - used) below) refl
 
-  picked-missing : (new : List FilePage) (missing : FilePage) (i : ℕ) → 1023 - used ≤ i → picked new missing i ≡ missing
+  picked-missing : (new : List FilePage) (missing : FilePage) (i : ℕ) → room - used ≤ i → picked new missing i ≡ missing
   unfolding picked
-  picked-missing new missing i above = rw (le-ltb i (1023 - used) above) refl
+  picked-missing new missing i above = rw (le-ltb i (room - used) above) refl
 
-  pub overflow_exact : (new : List FilePage) → Overflows t file first count used old new → 1023 < used + fresh_count t file first count old used
-  overflow_exact new o =
+  pub overflow_exact : (new : List FilePage) (ranks : List ℕ) → Overflows t file first count used old new ranks → room < used + fresh_count t file first count old used
+  overflow_exact new ranks o =
       let g = o.full in
       let unlisted : IsListed old used o.missing → ⊥ = λ listed. o.absent (listed.0, omega (arith, listed.1, g.longer), g.kept listed.0 listed.1 ∙ listed.2) in
-      let least = at_least (1023 - used + 1) (picked new o.missing)
-      (λ i below. elim (cases_lt i (1023 - used)) [
+      let least = at_least (room - used + 1) (picked new o.missing)
+      (λ i below. elim (cases_lt i (room - used)) [
         | inl early ↦ rw (picked-entry new o.missing i early) (g.touched (used + i) (omega arith) (omega arith))
         | inr late ↦ rw (picked-missing new o.missing i late) o.touched
       ])
-      (λ i below. elim (cases_lt i (1023 - used)) [
-        | inl early ↦ rw (picked-entry new o.missing i early) (not_before new 1023 i g (omega arith))
+      (λ i below. elim (cases_lt i (room - used)) [
+        | inl early ↦ rw (picked-entry new o.missing i early) (not_before new ranks room i g (omega arith))
         | inr late ↦ rw (picked-missing new o.missing i late) unlisted
       ])
-      (λ i j less below. rw (picked-entry new o.missing i (omega arith)) (elim (cases_lt j (1023 - used)) [
+      (λ i j less below. rw (picked-entry new o.missing i (omega arith)) (elim (cases_lt j (room - used)) [
         | inl early ↦ rw (picked-entry new o.missing j early) (g.once (used + i) (used + j) (omega arith) (omega arith) (omega arith))
         | inr late ↦ rw (picked-missing new o.missing j late) (λ e. o.absent (used + i, omega arith, e))
       ])) in
       omega (arith, g.longer, least)
 
-  pub exact : (new : List FilePage) (r : Result ℕ TooMany) → IfOk r (λ n. Gathers t file first count used old new n) → IfOk r (λ n. HasAll t file first count new n)
-      → OnErr r (Overflows t file first count used old new) → IsErr r ↔ (1023 < used + fresh_count t file first count old used)
-  exact new (Ok n) g all over = (λ e. absurd (false≢true e), λ many. absurd (omega (arith, many, g.most, length_exact new n g all)))
-  exact new (Err e) g all over = (λ _. overflow_exact new over, λ _. refl)
+  pub exact : (new : List FilePage) (ranks : List ℕ) (r : Result ℕ TooMany) → IfOk r (λ n. Gathers t file first count used old new ranks n) → IfOk r (λ n. HasAll t file first count new n)
+      → OnErr r (Overflows t file first count used old new ranks) → IsErr r ↔ (room < used + fresh_count t file first count old used)
+  exact new ranks (Ok n) g all over = (λ e. absurd (false≢true e), λ many. absurd (omega (arith, many, g.most, length_exact new ranks n g all)))
+  exact new ranks (Err e) g all over = (λ _. overflow_exact new ranks over, λ _. refl)
 
-  pub length_of : (new : List FilePage) (r : Result ℕ TooMany) → IfOk r (λ n. Gathers t file first count used old new n) → IfOk r (λ n. HasAll t file first count new n)
+  pub length_of : (new : List FilePage) (ranks : List ℕ) (r : Result ℕ TooMany) → IfOk r (λ n. Gathers t file first count used old new ranks n) → IfOk r (λ n. HasAll t file first count new n)
       → IfOk r (λ n. n ≡ used + fresh_count t file first count old used)
-  length_of new (Ok n) g all = length_exact new n g all
-  length_of new (Err e) g all = tt
+  length_of new ranks (Ok n) g all = length_exact new ranks n g all
+  length_of new ranks (Err e) g all = tt

@@ -51,6 +51,11 @@ page_at-within pages n page e = elim (cases_lt n (length pages)) [
   | inr past ↦ absurd (none-some page (sym (get_or_past pages n None past) ∙ e))
 ]
 
+-- the number of a node, where there is one
+abbrev pub node_number : Option ℕ → ℕ
+node_number None = 0
+node_number (Some n) = n
+
 pub next_number-some : (o : Option ℕ) (n : ℕ) → next_number o ≡ Some n → (k : ℕ) × (o ≡ Some k) × (n ≡ k + 1)
 next_number-some None n e = absurd (none-some n e)
 next_number-some (Some k) n e = (k, refl, (cc))

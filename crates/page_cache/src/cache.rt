@@ -1,13 +1,13 @@
 //! The map from page to place, and the set of touched pages.
-ghost use Rattle.std.specs.Prelude.{◌≡◌, ◌≢◌, ◌+◌, ◌<◌, ◌≤◌, ◌^◌, ◌↔◌, true, false, Some, None, IfOk, IfSome, IfNone, OnErr, IsErr};
+ghost use Rattle.std.specs.Prelude.{◌≡◌, ◌≢◌, ◌+◌, ◌<◌, ◌≤◌, ◌^◌, ◌↔◌, true, false, Some, None, IfOk, IfSome, IfNone, OnErr, IsErr, length};
 
-use crate::gathering::{filed, is_in_row, push_fresh};
+use crate::gathering::{FileRow, filed, is_in_row, push_fresh};
 use crate::index::Index;
 use crate::node_set::NodeSet;
 use crate::place::{Place, TooMany};
 use std::alloc::{AllocError, Global};
 use std::marker::Model;
-use vm_types::{FilePage, FrameNo, MSYNC_PAGES, PageKey, SlotNo};
+use vm_types::{FilePage, FrameNo, PageKey, SlotNo};
 
 /// Where each page of a file or an object is, and which are touched: a file page stored to through a shared mapping and not
 /// made durable since, and a page of an object stored to at all. A frame and a slot hold at most one such page each; every
@@ -36,9 +36,8 @@ impl Model for PageCache {
 
 impl PageCache {
     ghost use Rattle.page_cache.specs.declared.place.Place.TheVariants.{Home, Frame, Slot};
-    ghost use Rattle.page_cache.specs.Gathering.{Gathers, GathersRow, HasAll, Overflows, fresh_count};
+    ghost use Rattle.page_cache.specs.Gathering.{IsGathering, Gathers, GathersRow, HasAll, Overflows, fresh_count, IsTouchedAt};
     ghost use Rattle.page_cache.specs.CacheTable.{cache_frames, slot_count, place_in, place_of, is_touched, IsInside, IsFreeFor, IsSoundCache, IsNewCache, SameButForPage};
-    ghost use Rattle.vm_types.specs.Limits.{msync_pages};
 
     /// The cache of a memory of `frames` frames, 8 to 65,536, and of `slots` slots of swap, at most 65,536, with every
     /// page at home and untouched. No later call takes memory of the host.
@@ -164,55 +163,57 @@ impl PageCache {
         }
     }
 
-    /// Appends the touched ones among `count` pages of a file from `first` on, whose numbers are under 2 ^ 32, to the
-    /// first `used` entries of the list, but those that are among these already. Returns how many entries there are then.
+    /// Appends the touched pages of the row, whose numbers are under 2 ^ 32, to the first `used` entries of the list, but those
+    /// that are among these already. Returns how many entries there are then. `ranks` has a place for each frame and each slot,
+    /// where the rank in the list of the page there is noted. Each call goes on with both as the one before left them; with
+    /// `used` 0 they may hold anything.
     /// Its time is that of the shorter of two: a look at each page of the row, or at each touched page.
     ///
     /// # Errors
-    /// `TooMany` exactly where there would be more than 1,023. Then the list holds 1,023, the first `used` of them as before and
-    /// the others touched pages of the row.
+    /// `TooMany` exactly where there would be more entries than the list has room for. Then it is full, the first `used` of them
+    /// as before and the others touched pages of the row.
     pub fn dirty_in(
         &self,
-        first: FilePage,
-        count: u32,
-        list: &mut [FilePage; MSYNC_PAGES],
+        row: FileRow,
+        list: &mut [FilePage],
+        ranks: &mut [u32],
         used: usize,
     ) -> Result<usize, TooMany>
-        requires used { used ≤ msync_pages }
-        requires row { first.page + count ≤ 2 ^ 32 }
-        ensures gathered { IfOk result (λ n. Gathers self.now first.file first.page count used list.old list.new n) }
-        ensures all { IfOk result (λ n. HasAll self.now first.file first.page count list.new n) }
-        ensures number { IfOk result (λ n. n ≡ used + fresh_count self.now first.file first.page count list.old used) }
-        ensures exact { IsErr result ↔ (msync_pages < used + fresh_count self.now first.file first.page count list.old used) }
-        ensures too_many { OnErr result (Overflows self.now first.file first.page count used list.old list.new) }
+        requires gathering { IsGathering self.now list.old ranks.old used }
+        requires row { row.first.page + row.count ≤ 2 ^ 32 }
+        ensures gathered { IfOk result (λ n. Gathers self.now row.first.file row.first.page row.count used list.old list.new ranks.new n) }
+        ensures all { IfOk result (λ n. HasAll self.now row.first.file row.first.page row.count list.new n) }
+        ensures number { IfOk result (λ n. n ≡ used + fresh_count self.now row.first.file row.first.page row.count list.old used) }
+        ensures exact { IsErr result ↔ (length list.old < used + fresh_count self.now row.first.file row.first.page row.count list.old used) }
+        ensures too_many { OnErr result (Overflows self.now row.first.file row.first.page row.count used list.old list.new ranks.new) }
     {
-        if count < self.touched.len() {
-            self.gather_row(first, count, list, used)
+        if row.count < self.touched.len() {
+            self.gather_row(row, list, ranks, used)
         } else {
-            self.gather_touched(first, count, list, used)
+            self.gather_touched(row, list, ranks, used)
         }
     }
 
     /// `dirty_in` by a look at each page of the row.
     fn gather_row(
         &self,
-        first: FilePage,
-        count: u32,
-        list: &mut [FilePage; MSYNC_PAGES],
+        row: FileRow,
+        list: &mut [FilePage],
+        ranks: &mut [u32],
         used: usize,
     ) -> Result<usize, TooMany>
-        requires used { used ≤ msync_pages }
-        requires row { first.page + count ≤ 2 ^ 32 }
-        ensures { GathersRow self.now first.file first.page count used list.old list.new result }
+        requires gathering { IsGathering self.now list.old ranks.old used }
+        requires row { row.first.page + row.count ≤ 2 ^ 32 }
+        ensures { GathersRow self.now row.first.file row.first.page row.count used list.old list.new ranks.new result }
     {
         let mut n = used;
-        for offset in 0..count {
+        for offset in 0..row.count {
             let page = FilePage {
-                file: first.file,
-                page: first.page + offset,
+                file: row.first.file,
+                page: row.first.page + offset,
             };
-            if self.is_touched(PageKey::File(page)) {
-                n = push_fresh(list, used, n, page)?;
+            if let Some(node) = self.touched_node(PageKey::File(page)) {
+                n = push_fresh(list, ranks, n, node, page)?;
             }
         }
         Ok(n)
@@ -221,23 +222,36 @@ impl PageCache {
     /// `dirty_in` by a look at each touched page.
     fn gather_touched(
         &self,
-        first: FilePage,
-        count: u32,
-        list: &mut [FilePage; MSYNC_PAGES],
+        row: FileRow,
+        list: &mut [FilePage],
+        ranks: &mut [u32],
         used: usize,
     ) -> Result<usize, TooMany>
-        requires { used ≤ msync_pages }
-        ensures { GathersRow self.now first.file first.page count used list.old list.new result }
+        requires { IsGathering self.now list.old ranks.old used }
+        ensures { GathersRow self.now row.first.file row.first.page row.count used list.old list.new ranks.new result }
     {
         let mut n = used;
         for place in 0..self.touched.len() {
-            if let Some(page) = filed(self.index.page(self.touched.node(place))) {
-                if is_in_row(page, first.file, first.page, count) {
-                    n = push_fresh(list, used, n, page)?;
+            let node = self.touched.node(place);
+            if let Some(page) = filed(self.index.page(node)) {
+                if is_in_row(page, row) {
+                    n = push_fresh(list, ranks, n, node, page)?;
                 }
             }
         }
         Ok(n)
+    }
+
+    /// The node that holds the page, where it is touched. The third clause is what is true at all times.
+    fn touched_node(&self, page: PageKey) -> Option<usize>
+        ensures touched { IfSome result (IsTouchedAt self.now page) }
+        ensures untouched { IfNone result (is_touched self.now page ≡ false) }
+        ensures sound { IsSoundCache self.now }
+    {
+        match self.index.find(page) {
+            Some(node) if self.touched.contains(node) => Some(node),
+            _ => None,
+        }
     }
 
     /// Sends the page home and untouched. Returns whether it was touched.

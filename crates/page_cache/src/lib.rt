@@ -10,4 +10,5 @@ mod node_set;
 mod place;
 
 pub use cache::PageCache;
+pub use gathering::FileRow;
 pub use place::{Place, TooMany};

@@ -13,6 +13,6 @@ pub enum Place {
     Slot(SlotNo),
 }
 
-/// More touched pages than one msync makes durable.
+/// More touched pages than a list has room for.
 #[derive(Clone, Copy, Debug, PartialEq, Eq)]
 pub struct TooMany;

@@ -1,8 +1,7 @@
-//! What is refused, and the largest plan.
-use super::client::{Client, carry_out, equal, expect, lent_of, new_store, rows_of, zeros};
-use disk_model::SimDisk;
-use file_store::format;
+//! What is refused, and how long plans are.
+use super::client::{Client, carry_out, equal, expect, lent_of, made, new_store, rows_of, zeros};
 use std::process::Abort;
+use stores::NewStore;
 use sync_journal::Journals;
 use sync_plans::{PageUpdates, Refusal};
 use vm_types::FilePage;
@@ -11,32 +10,54 @@ const FIRST: FilePage = FilePage { file: 0, page: 0 };
 
 #[test]
 fn no_store_and_bad_pages_are_refused(rt: HostRuntime) {
-    let disk = new_store(&rt, Journals::Single);
     let mut client = Client::new(&rt);
     equal(&rt, client.ask(&[], None), Err(Refusal::BadLayout));
-    let image = rows_of(&rt, &disk);
     let lent = lent_of(&rt, &[[9; 4096]; 2]);
-    for (file, page, wanted) in [
-        (0, 2, Refusal::BadPages),
-        (0, 0, Refusal::BadPages),
-        (3, 0, Refusal::BadPages),
-        (1, 0, Refusal::ReadOnly),
+    for store in [NewStore::Journals(Journals::Single), NewStore::Pool(1)] {
+        let image = rows_of(&rt, &new_store(&rt, store));
+        for (file, page, wanted) in [
+            (0, 2, Refusal::BadPages),
+            (0, 0, Refusal::BadPages),
+            (3, 0, Refusal::BadPages),
+            (1, 0, Refusal::ReadOnly),
+        ] {
+            let updates = PageUpdates {
+                pages: &[FIRST, FilePage { file, page }],
+                bytes: lent.as_slice(),
+            };
+            let answer = client.ask(image.as_slice(), Some(updates));
+            equal(&rt, answer, Err(wanted));
+        }
+    }
+}
+
+// A commit of a page to a pool takes 12 calls: the page, eight rows of the map and one of the gate, with two syncs.
+#[test]
+fn the_shortest_list_is_the_room(rt: HostRuntime) {
+    let image = rows_of(&rt, &new_store(&rt, NewStore::Pool(1)));
+    let lent = lent_of(&rt, &[[9; 4096]]);
+    for (scratch, plan, wanted) in [
+        ([12, 12], [12, 12], Ok(12)),
+        ([11, 13], [13, 13], Err(Refusal::Device)),
+        ([13, 11], [13, 13], Err(Refusal::Device)),
+        ([13, 13], [11, 13], Err(Refusal::Device)),
+        ([13, 13], [13, 0], Err(Refusal::Device)),
     ] {
+        let mut client = Client::with_room(&rt, [scratch, plan]);
         let updates = PageUpdates {
-            pages: &[FIRST, FilePage { file, page }],
+            pages: &[FIRST],
             bytes: lent.as_slice(),
         };
         let answer = client.ask(image.as_slice(), Some(updates));
-        equal(&rt, answer, Err(wanted));
+        equal(&rt, answer, wanted);
     }
 }
 
 /// So many calls take 1,023 pages, and 1,023 more.
 #[test]
-fn the_largest_plan_has_room(rt: HostRuntime) {
-    let mut disk = SimDisk::new(rt.alloc(), 16379).expect(&rt, "memory");
+fn the_largest_plan_of_a_journal_is_short(rt: HostRuntime) {
     let mut files = [zeros(1023 * 4096, false)];
-    format(&mut disk, Journals::Single, &mut files).expect(&rt, "a store");
+    let mut disk = made(&rt, NewStore::Journals(Journals::Single), &mut files);
     let mut client = Client::new(&rt);
     let mut pages = Vec::new(rt.alloc());
     for page in 0..1023 {

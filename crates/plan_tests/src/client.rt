@@ -1,11 +1,14 @@
 //! Who asks for plans and carries them out.
+ghost use Rattle.stores.specs.NewStores.{IsSizedNew};
+
 use disk_model::{SectorDisk, SimDisk};
-use file_store::{FileSource, format};
+use file_store::FileSource;
+use std::alloc::Global;
 use std::fmt::Debug;
 use std::process::Abort;
-use sync_journal::Journals;
+use stores::{NewStore, format, image_bytes};
 use sync_plans::{
-    Call, PageBytes, PageUpdates, ROOM, Refusal, Scratch, file_facts, plan_commit, plan_open,
+    Call, PageBytes, PageUpdates, Refusal, Scratch, file_facts, plan_commit, plan_open,
 };
 use vm_types::FilePage;
 
@@ -36,16 +39,26 @@ pub(crate) fn zeros(length: u32, read_only: bool) -> FileSource<&'static [u8]> {
     }
 }
 
-/// A new store of the files of `PLACES`, all zeros.
-pub(crate) fn new_store(rt: &(impl AllocGlobal + Abort), journals: Journals) -> SimDisk {
-    let sectors = match journals {
-        Journals::Single => 8227,
-        Journals::Paired => 16440,
-    };
+/// A device with a new store of these files.
+pub(crate) fn made(
+    rt: &(impl AllocGlobal + Abort),
+    store: NewStore,
+    files: &mut [FileSource<&'static [u8]>],
+) -> SimDisk
+    requires { IsSizedNew store }
+{
+    let sectors = image_bytes(store, files) / 512;
     let mut disk = SimDisk::new(rt.alloc(), sectors).expect(rt, "memory");
-    let mut files = [zeros(5000, false), zeros(1, true), zeros(4096, false)];
-    format(&mut disk, journals, &mut files).expect(rt, "a store");
+    format(&mut disk, store, files).expect(rt, "a store");
     disk
+}
+
+/// A new store of the files of `PLACES`, all zeros.
+pub(crate) fn new_store(rt: &(impl AllocGlobal + Abort), store: NewStore) -> SimDisk
+    requires { IsSizedNew store }
+{
+    let mut files = [zeros(5000, false), zeros(1, true), zeros(4096, false)];
+    made(rt, store, &mut files)
 }
 
 /// What a device holds, a sector a row.
@@ -69,6 +82,9 @@ pub(crate) fn lent_of<'a>(
     lent
 }
 
+/// So many calls a client has room for.
+const ROOM: usize = 16384;
+
 /// A plan, in vectors since its rows are eight megabytes.
 #[derive(Drop)]
 pub(crate) struct Plan {
@@ -77,18 +93,38 @@ pub(crate) struct Plan {
     rows: Vec<[u8; 512]>,
 }
 
+impl Plan {
+    /// Its places, as room to work in.
+    fn lent(&mut self) -> Scratch<'_> {
+        Scratch {
+            calls: self.calls.as_mut_slice(),
+            rows: self.rows.as_mut_slice(),
+        }
+    }
+
+    /// How many of its calls write a row, sync, write a page that is lent, and copy one.
+    pub(crate) fn counts(&self) -> [usize; 4] {
+        let mut counts = [0usize; 4];
+        for call in self.calls.iter().take(self.used) {
+            let kind = (call.kind.saturating_sub(1) % 4) as usize;
+            counts[kind] = counts[kind].saturating_add(1);
+        }
+        counts
+    }
+}
+
 const NO_CALL: Call = Call {
     kind: 0,
     sector: 0,
     from: 0,
 };
 
-/// A plan of no call.
-fn blank(rt: &(impl AllocGlobal + Abort)) -> Plan {
+/// A plan of no call, with so much room.
+fn blank(rt: &(impl AllocGlobal + Abort), [calls, rows]: [usize; 2]) -> Plan {
     Plan {
         used: 0,
-        calls: Vec::from_elem(rt.alloc(), NO_CALL, ROOM).expect(rt, "memory"),
-        rows: Vec::from_elem(rt.alloc(), [0; 512], ROOM).expect(rt, "memory"),
+        calls: Vec::from_elem(rt.alloc(), NO_CALL, calls).expect(rt, "memory"),
+        rows: Vec::from_elem(rt.alloc(), [0; 512], rows).expect(rt, "memory"),
     }
 }
 
@@ -139,6 +175,7 @@ fn copy_page(disk: &mut SimDisk, from: u64, to: u64) -> bool {
 /// Room for plans.
 #[derive(Drop)]
 pub(crate) struct Client {
+    alloc: Global,
     scratch: Plan,
     /// The plan that was asked for last.
     pub(crate) plan: Plan,
@@ -146,9 +183,18 @@ pub(crate) struct Client {
 
 impl Client {
     pub(crate) fn new(rt: &(impl AllocGlobal + Abort)) -> Client {
+        Client::with_room(rt, [[ROOM; 2]; 2])
+    }
+
+    /// With so many places for calls and for rows to work in, and for those of a plan.
+    pub(crate) fn with_room(
+        rt: &(impl AllocGlobal + Abort),
+        [scratch, plan]: [[usize; 2]; 2],
+    ) -> Client {
         Client {
-            scratch: blank(rt),
-            plan: blank(rt),
+            alloc: rt.alloc(),
+            scratch: blank(rt, scratch),
+            plan: blank(rt, plan),
         }
     }
 
@@ -158,55 +204,33 @@ impl Client {
         image: &[[u8; 512]],
         updates: Option<PageUpdates<'_>>,
     ) -> Result<usize, Refusal> {
-        let Some(scratch_calls) = self.scratch.calls.as_mut_array() else {
-            return Err(Refusal::Device);
-        };
-        let Some(scratch_rows) = self.scratch.rows.as_mut_array() else {
-            return Err(Refusal::Device);
-        };
-        let Some(calls) = self.plan.calls.as_mut_array() else {
-            return Err(Refusal::Device);
-        };
-        let Some(rows) = self.plan.rows.as_mut_array() else {
-            return Err(Refusal::Device);
-        };
-        let scratch = Scratch {
-            calls: scratch_calls,
-            rows: scratch_rows,
-        };
+        let scratch = self.scratch.lent();
+        let calls = self.plan.calls.as_mut_slice();
+        let rows = self.plan.rows.as_mut_slice();
         self.plan.used = match updates {
             Some(updates) if updates.pages.len() == updates.bytes.len() => {
-                plan_commit(image, scratch, calls, rows, updates)?
+                plan_commit(self.alloc, image, scratch, calls, rows, updates)?
             }
             Some(_) => return Err(Refusal::Device),
-            None => plan_open(image, scratch, calls, rows)?,
+            None => plan_open(self.alloc, image, scratch, calls, rows)?,
         };
         Ok(self.plan.used)
     }
 
     /// The byte that fills a page up to its file's end, which is where it has to be.
-    fn byte_of(
+    pub(crate) fn byte_of(
         &mut self,
         image: &[[u8; 512]],
         page: FilePage,
         length: u32,
     ) -> Result<Option<u8>, Refusal> {
-        let Some(calls) = self.scratch.calls.as_mut_array() else {
-            return Err(Refusal::Device);
-        };
-        let Some(rows) = self.scratch.rows.as_mut_array() else {
-            return Err(Refusal::Device);
-        };
-        let scratch = Scratch {
-            calls: &mut *calls,
-            rows: &mut *rows,
-        };
-        match file_facts(image, scratch, page.file)? {
+        let info = file_facts(self.alloc, image, self.scratch.lent(), page.file)?;
+        match info {
             Some(info) if info.length == length => {}
             _ => return Ok(None),
         }
         let mut bytes = [0; 4096];
-        sync_plans::read_page(image, Scratch { calls, rows }, page, &mut bytes)?;
+        sync_plans::read_page(self.alloc, image, self.scratch.lent(), page, &mut bytes)?;
         let inside = length.saturating_sub(page.page.saturating_mul(4096)) as usize;
         for at in 0..4096 {
             let wanted = if at < inside { bytes[0] } else { 0 };

@@ -6,4 +6,6 @@ mod answers;
 #[cfg(test)]
 mod client;
 #[cfg(test)]
+mod pools;
+#[cfg(test)]
 mod stops;

@@ -1,7 +1,10 @@
 //! Plans that are stopped before each of their calls, with torn sectors, and opened again.
+ghost use Rattle.stores.specs.NewStores.{IsSizedNew};
+
 use super::client::{Client, PLACES, Plan, carry_out, equal, expect, lent_of, new_store, rows_of};
 use disk_model::SimDisk;
 use std::process::Abort;
+use stores::NewStore;
 use sync_journal::Journals;
 use sync_plans::{PageBytes, PageUpdates};
 
@@ -58,9 +61,9 @@ fn stopped_everywhere(
         }
         let is_made = carry_out(&mut stopped, plan, lent, count, 1);
         expect(rt, is_made, "a call that can't be made");
-        // All of them where the gate is unsynced, which is sector 2, or 16 where there are two journals.
+        // All of them where the gate is unsynced, which is sector 2, 16 where there are two journals, or 8 where there is a pool.
         fillings = match plan.calls.get(count) {
-            Some(call) if call.kind == 1 && (call.sector == 2 || call.sector == 16) => 5,
+            Some(call) if call.kind == 1 && [2, 8, 16].contains(&call.sector) => 5,
             _ => 1,
         };
     }
@@ -91,12 +94,7 @@ fn committed(
     let mut client = Client::new(rt);
     let answer = client.ask(image.as_slice(), Some(updates));
     let plan = &client.plan;
-    let mut counts = [0usize; 4];
-    for call in plan.calls.iter().take(plan.used) {
-        let kind = (call.kind.saturating_sub(1) % 4) as usize;
-        counts[kind] = counts[kind].saturating_add(1);
-    }
-    equal(rt, (answer, counts), (Ok(plan.used), wanted));
+    equal(rt, (answer, plan.counts()), (Ok(plan.used), wanted));
     stopped_everywhere(rt, disk, plan, lent.as_slice(), [before, after]);
     let is_done = carry_out(disk, plan, lent.as_slice(), 0, plan.used);
     expect(rt, is_done, "a plan that can't be carried out");
@@ -105,7 +103,8 @@ fn committed(
 /// Commits, each by what fills the pages after it and by its calls of each kind. First one page, whose bytes past its file's end make
 /// it eight sectors of the body, and the map's, and the gate, with a sync behind each; then three pages of two files, two of them each
 /// in one call. With one journal the home of the page before and the gate come first, with a sync behind each. Of two journals in
-/// turn it is two syncs, whichever is filled, and pages of the commit before go home in one call each, but those that are taken again.
+/// turn it is two syncs, whichever is filled, and pages of the commit before go home in one call each, but those that are taken again. Of a pool
+/// it is two syncs too, and no page goes home.
 const SINGLE: &[([u8; 4], [usize; 4])] = &[
     ([0, 7, 0, 0], [17, 2, 0, 0]),
     ([5, 6, 0, 8], [18, 4, 2, 1]),
@@ -118,22 +117,45 @@ const PAIRED: &[([u8; 4], [usize; 4])] = &[
     ([4, 6, 0, 9], [9, 2, 1, 1]),
 ];
 
-// At the end the opening is stopped, of so many calls.
-#[test]
-fn a_plan_that_is_stopped_anywhere_is_whole_or_nothing(rt: HostRuntime) {
-    for (journals, commits, calls) in [
-        (Journals::Single, SINGLE, 6),
-        (Journals::Paired, PAIRED, 12),
-    ] {
-        let mut disk = new_store(&rt, journals);
-        let mut files = [0; 4];
-        for (after, wanted) in commits {
-            committed(&rt, &mut disk, files, *after, *wanted);
-            files = *after;
-        }
-        let mut client = Client::new(&rt);
-        let image = rows_of(&rt, &disk);
-        equal(&rt, client.ask(image.as_slice(), None), Ok(calls));
-        stopped_everywhere(&rt, &disk, &client.plan, &[], [files, files]);
+const POOL: &[([u8; 4], [usize; 4])] = &[
+    ([0, 7, 0, 0], [17, 2, 0, 0]),
+    ([5, 6, 0, 8], [17, 2, 2, 0]),
+    ([4, 6, 0, 8], [9, 2, 1, 0]),
+    ([4, 6, 0, 9], [9, 2, 1, 0]),
+];
+
+/// Stops commits to a new store, and at the end its opening, of so many calls.
+fn stopped_in_a_row(
+    rt: &(impl AllocGlobal + Abort),
+    store: NewStore,
+    commits: &[([u8; 4], [usize; 4])],
+    calls: usize,
+)
+    requires { IsSizedNew store }
+{
+    let mut disk = new_store(rt, store);
+    let mut files = [0; 4];
+    for (after, wanted) in commits {
+        committed(rt, &mut disk, files, *after, *wanted);
+        files = *after;
     }
+    let mut client = Client::new(rt);
+    let image = rows_of(rt, &disk);
+    equal(rt, client.ask(image.as_slice(), None), Ok(calls));
+    stopped_everywhere(rt, &disk, &client.plan, &[], [files, files]);
+}
+
+#[test]
+fn a_plan_for_one_journal_is_whole_or_nothing(rt: HostRuntime) {
+    stopped_in_a_row(&rt, NewStore::Journals(Journals::Single), SINGLE, 6);
+}
+
+#[test]
+fn a_plan_for_two_journals_is_whole_or_nothing(rt: HostRuntime) {
+    stopped_in_a_row(&rt, NewStore::Journals(Journals::Paired), PAIRED, 12);
+}
+
+#[test]
+fn a_plan_for_a_pool_is_whole_or_nothing(rt: HostRuntime) {
+    stopped_in_a_row(&rt, NewStore::Pool(1), POOL, 11);
 }

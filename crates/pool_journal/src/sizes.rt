@@ -54,7 +54,7 @@ impl PoolSizes {
     }
 
     /// The first sector of a map.
-    pub(crate) fn start(self, second: bool) -> u64
+    pub fn start(self, second: bool) -> u64
         requires { IsSized self }
         ensures { result ≡ pool_start self.blocks second }
     {

@@ -186,14 +186,13 @@ pub(crate) fn has_unsynced(rt: &HostRuntime) -> bool {
 }
 
 /// Why no machine starts, as it is told.
-const BOOT_FAULTS: [(BootFault, &[u8]); 7] = [
+const BOOT_FAULTS: [(BootFault, &[u8]); 6] = [
     (BootFault::Frames, b"pagerun: boot 1 FRAMES\n"),
     (BootFault::Slots, b"pagerun: boot 2 SLOTS\n"),
     (BootFault::OutOfMemory, b"pagerun: boot 3 OUTOFMEMORY\n"),
     (BootFault::Device, b"pagerun: boot 4 DEVICE\n"),
     (BootFault::BadLayout, b"pagerun: boot 5 BADLAYOUT\n"),
     (BootFault::BadJournal, b"pagerun: boot 6 BADJOURNAL\n"),
-    (BootFault::SmallPool, b"pagerun: boot 7 SMALLPOOL\n"),
 ];
 
 /// Why no image is upgraded.

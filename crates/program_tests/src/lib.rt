@@ -8,6 +8,8 @@ mod images;
 #[cfg(test)]
 mod looks;
 #[cfg(test)]
+mod newer_layouts;
+#[cfg(test)]
 mod pools;
 #[cfg(test)]
 mod refusals;
@@ -17,5 +19,3 @@ mod runs;
 mod stops;
 #[cfg(test)]
 mod streams;
-#[cfg(test)]
-mod upgrades;

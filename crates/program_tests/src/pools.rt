@@ -55,7 +55,7 @@ const POOLS: [(&str, &[Step<'static>]); 3] = [
             Removes(RUN),
         ],
     ),
-    // One block has too few slots for a machine.
+    // The smallest pool, of one block.
     (
         "pool",
         &[
@@ -67,9 +67,9 @@ const POOLS: [(&str, &[Step<'static>]); 3] = [
             ),
             File("@image", IsLong(512 * (48 + 8080 + 16))),
             Shows(FIRST, &[(b"\0", 5000)]),
-            Fails(Run, RUN, "pagerun: boot 7 SMALLPOOL\n"),
+            Does(Run, RUN, b"spawn\n", b"pid 1\n"),
             Removes(RUN),
-            // Three blocks are enough: 2,017 pages are more than two have.
+            // 2,017 pages are more than two blocks have.
             Does(
                 Format,
                 &["new4", "--pool", "2017", "@image", "zero:1"],

@@ -10,7 +10,7 @@ use Rattle.pool_store.{proofs.{Entries.{entry_stood}, Standing.{AreAlike, entry_
 use Rattle.pool_store.specs.Store as InPool
 use Rattle.stores.proofs.{Heads.{blocks_are, same_blocks, same_mark, same_pages}, PoolOpens.{of_head}, Said.{kind_outside, mark_outside}, Says.{IsHeaded, head_of}}
 use Rattle.stores.specs.{Images.{ImageSays, directory_pages, is_pool, says_by}, Opened.{OpensFrom}}
-use Rattle.{stores.specs.{Store.{disk_of}, declared.store.{Store.{Store}, Store.TheVariants.{Journals, Pool}}}, programs.{proofs.Copies.{has_entry}, specs.Showing.{IsInFile, IsInHomesOf, IsSectorOfFile}}}
+use Rattle.{stores.specs.{Store.{disk_of}, declared.store.{Store.{Store}, Store.TheVariants.{Journals, Pool}}}, programs.{proofs.Copies.{has_entry}, specs.Showing.{IsInPagesOf, IsInHomesOf, IsSectorOfFile}}}
 
 -- where nothing stands in a journal alone, a page stands in its home
 at_home : (journal : StoreJournal) (h k : ℕ) → store_live journal ≡ [] → IsPageSector (by_kind.stands_at journal h) k → IsPageSector (kind_home (journal_kind journal) h) k
@@ -71,8 +71,8 @@ module _ {D : Type 0} (g : Ghosts D) (old : D) where
               (at_home store.journal _ k (opened.carried keeps) sector.2)),
         )
 
-    in_file_of_kind : (f k : ℕ) → IsSectorOfFile (Journals store) f k → IsInFile (is_pool image) sectors image f k
-    in_file_of_kind f k sector = subst (λ b. IsInFile b sectors image f k) (sym unmarked) (in_homes f k sector)
+    in_file_of_kind : (f k : ℕ) → IsSectorOfFile (Journals store) f k → IsInPagesOf (is_pool image) sectors image f k
+    in_file_of_kind f k sector = subst (λ b. IsInPagesOf b sectors image f k) (sym unmarked) (in_homes f k sector)
 
   -- Or it has a pool.
   module _ (store : PoolStore D) (opened : OpensFrom g old (Pool store)) (keeps : g.keeps_model store.disk) where
@@ -137,13 +137,13 @@ module _ {D : Type 0} (g : Ghosts D) (old : D) where
           subst (λ o. IsPageSector (pool_stands m home o) k) (slots home) sector.2.2,
         )
 
-    in_file_of_pool : (f k : ℕ) → IsSectorOfFile (Pool store) f k → IsInFile (is_pool image) sectors image f k
-    in_file_of_pool f k sector = subst (λ b. IsInFile b sectors image f k) (sym head.mark)
+    in_file_of_pool : (f k : ℕ) → IsSectorOfFile (Pool store) f k → IsInPagesOf (is_pool image) sectors image f k
+    in_file_of_pool f k sector = subst (λ b. IsInPagesOf b sectors image f k) (sym head.mark)
         (subst (λ x. IsInSizes x (directory_pages image) (pool_home_count x sectors) image f k) (sym head.blocks)
         (subst (λ y. IsInSizes m y (pool_home_count m sectors) image f k) (sym head.pages)
         (subst (λ z. IsInSizes m d z image f k) homes (in_sizes f k sector))))
 
   -- The sectors of an opened store's file are those of the image.
-  pub in_file : (store : Store D) (f k : ℕ) → OpensFrom g old store → g.keeps_model (disk_of store) → IsSectorOfFile store f k → IsInFile (is_pool image) sectors image f k
+  pub in_file : (store : Store D) (f k : ℕ) → OpensFrom g old store → g.keeps_model (disk_of store) → IsSectorOfFile store f k → IsInPagesOf (is_pool image) sectors image f k
   in_file (Journals store) f k opened keeps sector = in_file_of_kind store opened keeps f k sector
   in_file (Pool store) f k opened keeps sector = in_file_of_pool store opened keeps f k sector

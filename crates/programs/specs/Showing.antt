@@ -27,22 +27,22 @@ abbrev pub IsInHomesOf : Image → ℕ → ℕ → Type 0
 IsInHomesOf image f k = (entry : Entry) × (home : ℕ) × (directory_entry image f ≡ Some entry) × IsHomeOf entry home × IsPageSector (kind_home (kind_of image) home) k
 
 -- how a pool's image gives the slots: the map that its gate names
-abbrev pub named_in : ℕ → Image → Bool × (Bool → ℕ → ℕ)
-named_in sectors image = (pool_named image, pool_entry (map_blocks image) (pool_home_count (map_blocks image) sectors) (pool_named image) image)
+abbrev pub map_named : ℕ → Image → Bool × (Bool → ℕ → ℕ)
+map_named sectors image = (pool_named image, pool_entry (map_blocks image) (pool_home_count (map_blocks image) sectors) (pool_named image) image)
 
 -- a sector in which a page of file f of a pool stands: of its first slot in the map that the gate names, or of its home where there is none
 abbrev pub IsInPoolOf : ℕ → Image → ℕ → ℕ → Type 0
 IsInPoolOf sectors image f k = (entry : PoolEntry) × (page : ℕ) × (home : ℕ) × ((pool_of sectors image).entry image f ≡ Some entry)
-    × (home_of_page entry page ≡ Some home) × IsPageSector ((pool_of sectors image).pages.stands_at (named_in sectors image) home) k
+    × (home_of_page entry page ≡ Some home) × IsPageSector ((pool_of sectors image).pages.stands_at (map_named sectors image) home) k
 
 -- by whether the image is one of a pool
-abbrev pub IsInFile : Bool → ℕ → Image → ℕ → ℕ → Type 0
-IsInFile false sectors image f k = IsInHomesOf image f k
-IsInFile true sectors image f k = IsInPoolOf sectors image f k
+abbrev pub IsInPagesOf : Bool → ℕ → Image → ℕ → ℕ → Type 0
+IsInPagesOf false sectors image f k = IsInHomesOf image f k
+IsInPagesOf true sectors image f k = IsInPoolOf sectors image f k
 
 -- what a showing of file f of this image asks for: what an opening does, and the file's pages
 abbrev pub IsAskedToShow : ℕ → Image → ℕ → ℕ → Type 0
-IsAskedToShow sectors image f k = IsAskedToOpen sectors image k ⊎ IsInFile (is_pool image) sectors image f k
+IsAskedToShow sectors image f k = IsAskedToOpen sectors image k ⊎ IsInPagesOf (is_pool image) sectors image f k
 
 module _ {D : Type 0} where
   -- one of the sectors in which the pages of file f stand

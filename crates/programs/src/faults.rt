@@ -30,7 +30,7 @@ pub enum ProgramFault<'a> {
     /// No store was made.
     #[error("format {} {}", *.0 as u8, *.0)]
     Format(FormatFault),
-    /// No store was made of one of layout 1.
+    /// No store was made of an older one.
     #[error("upgrade {} {}", *.0 as u8, *.0)]
     Upgrade(UpgradeFault),
     /// A store was not opened.

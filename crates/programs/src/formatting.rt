@@ -33,7 +33,8 @@ use vm_types::FILES;
 /// `pagefmt upgrade OLD NEW`: makes NEW where it is missing, lengthens it so that it has as many home pages as OLD, an image of
 /// layout 1, and makes a store on it that stands for what OLD stands for. OLD is only read. Until something is written to NEW,
 /// every fault leaves it as it was, or unmakes it again. `pagefmt upgrade3 OLD NEW` does the same with an OLD of layout 2 and a NEW of
-/// layout 3, that of two journals in turn.
+/// layout 3, that of two journals in turn, and `pagefmt upgrade4 [--pool PAGES] OLD NEW` with an OLD of layout 2 or 3 and a NEW with a
+/// pool as `new4` makes it.
 ///
 /// An image that can't be had is not opened, and one that can't be synced is the fault of its device, which comes where the
 /// image is looked at: OLD and NEW are both opened before OLD is, and NEW is looked at once OLD is found good.

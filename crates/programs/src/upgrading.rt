@@ -1,14 +1,18 @@
-//! Images made anew in the next layout.
+//! Images made anew in a later layout.
+ghost use Rattle.stores.specs.NewStores.{IsSizedNew};
+
 use crate::faults::ProgramFault;
 use crate::files::disk_in;
 use crate::formatting::{image_file, lengthened, set_back};
 use crate::places::held_places;
 use command_words::UpgradeWords;
-use disk_model::{FileContents, FileDisk, SECTOR_BYTES, SectorDisk};
-use file_store::{UpgradeFault, upgrade};
+use disk_model::{FileContents, FileDisk, SectorDisk};
+use file_store::UpgradeFault;
 use host_files::{Opening, open_alone};
 use std::fs::{File, Files};
-use sync_journal::{FIRST_HOME, Journals, PAGE_SECTORS, TURN_HOMES, home_count, old_home_count};
+use stores::{NewStore, image_bytes};
+use sync_journal::{Journals, home_count, old_home_count};
+use vm_types::PAGE_BYTES;
 
 /// Makes a store in NEW that stands for what the image OLD stands for.
 pub(crate) fn upgrade_image<
@@ -16,14 +20,16 @@ pub(crate) fn upgrade_image<
     C: FileContents,
     K: FileContents,
     R: Files<File = File> + AllocGlobal,
->(rt: &R, words: UpgradeWords<'a>) -> Result<(), ProgramFault<'a>> {
+>(rt: &R, words: UpgradeWords<'a>) -> Result<(), ProgramFault<'a>>
+    requires { IsSizedNew words.store }
+{
     let _places = held_places(rt)?;
-    let mut old = disk_in::<C>(words.old, open_alone(rt, words.old, Opening::Read))?;
+    let old = disk_in::<C>(words.old, open_alone(rt, words.old, Opening::Read))?;
     let (file, former) = match image_file(rt, words.new) {
         Ok(opened) => opened,
         Err(_) => return Err(ProgramFault::CannotOpen(words.new)),
     };
-    let length = upgraded_bytes(words.journals, old.sectors());
+    let length = upgraded_bytes(words.store, old.sectors());
     let mut new = match disk_in::<K>(words.new, lengthened(&file, length)) {
         Ok(new) => new,
         Err(fault) => {
@@ -31,7 +37,8 @@ pub(crate) fn upgrade_image<
             return Err(fault);
         }
     };
-    match upgrade_settled(&mut old, &mut new, words.journals) {
+    let (_old, made) = upgrade_settled(old, &mut new, words.store);
+    match made {
         Ok(()) => Ok(()),
         Err(fault) => {
             if !new.is_written() {
@@ -42,28 +49,51 @@ pub(crate) fn upgrade_image<
     }
 }
 
-/// Makes the store on NEW. A file that could not be synced is the fault of its device, whatever its length is: OLD before it is
-/// looked at, and NEW once OLD is found good.
+/// Makes the store on NEW, and gives OLD back, which keeps its lock. A file that could not be synced is the fault of its device,
+/// whatever its length is: OLD before it is looked at, and NEW once OLD is found good.
 fn upgrade_settled<C: FileContents, K: FileContents>(
-    old: &mut FileDisk<C>,
+    old: FileDisk<C>,
     new: &mut FileDisk<K>,
-    journals: Journals,
-) -> Result<(), UpgradeFault> {
+    store: NewStore,
+) -> (FileDisk<C>, Result<(), UpgradeFault>)
+    requires { IsSizedNew store }
+{
     if !old.is_settled() {
-        return Err(UpgradeFault::OldDevice);
+        return (old, Err(UpgradeFault::OldDevice));
     }
-    match upgrade(old, new, journals) {
-        Err(UpgradeFault::NewSmall) if !new.is_settled() => Err(UpgradeFault::NewDevice),
-        outcome => outcome,
+    let (old, made) = upgrade(old, new, store);
+    match made {
+        Err(UpgradeFault::NewSmall) if !new.is_settled() => (old, Err(UpgradeFault::NewDevice)),
+        made => (old, made),
     }
 }
 
-/// How many bytes an image of these journals has that has as many home pages as one of the layout before of so many sectors.
-fn upgraded_bytes(journals: Journals, sectors: u64) -> u64 {
-    match journals {
-        Journals::Single => {
-            SECTOR_BYTES as u64 * (FIRST_HOME + PAGE_SECTORS * old_home_count(sectors))
+/// Makes the store on NEW, by the crate of its layout.
+fn upgrade<D: SectorDisk, E: SectorDisk>(
+    old: D,
+    new: &mut E,
+    store: NewStore,
+) -> (D, Result<(), UpgradeFault>)
+    requires { IsSizedNew store }
+{
+    match store {
+        NewStore::Journals(journals) => {
+            let mut old = old;
+            let made = file_store::upgrade(&mut old, new, journals);
+            (old, made)
         }
-        Journals::Paired => SECTOR_BYTES as u64 * (TURN_HOMES + PAGE_SECTORS * home_count(sectors)),
+        NewStore::Pool(blocks) => upgrades::upgrade(old, new, blocks),
     }
+}
+
+/// How many bytes NEW is to have at least: those of an image of this store of no files, and a page for each home of OLD, which has so many
+/// sectors. Of one of layout 3, from which a pool's store is made, the homes are counted that layout 2 would have there: more than there are.
+fn upgraded_bytes(store: NewStore, sectors: u64) -> u64
+    requires { IsSizedNew store }
+{
+    let homes = match store {
+        NewStore::Journals(Journals::Single) => old_home_count(sectors),
+        NewStore::Journals(Journals::Paired) | NewStore::Pool(_) => home_count(sectors),
+    };
+    image_bytes::<File>(store, &[]).saturating_add(PAGE_BYTES as u64 * homes)
 }

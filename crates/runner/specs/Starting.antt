@@ -8,7 +8,7 @@ use Rattle.vm_types.specs.State.{State}
 use Rattle.machine.specs.declared.config.Config.{Config}
 use Rattle.machine.specs.declared.machine.Machine.{Machine}
 use Rattle.machine.specs.Machine.{store_of, swap_of, Shows}
-use Rattle.machine.specs.Boot.{Boots, HasBadFrames, HasBadSlots, HasRoom, HasSmallPool, IsAskedToBoot}
+use Rattle.machine.specs.Boot.{Boots, HasBadFrames, HasBadSlots, HasRoom, IsAskedToBoot}
 use Rattle.runner.specs.declared.engine.RunEnd.{RunEnd}
 use Rattle.runner.specs.Trace.{Streams, CausedTrace, RunsTrace}
 
@@ -34,7 +34,6 @@ module _ {D E : Type 0} (g : Ghosts D) (h : Ghosts E) where
     pub honest : g.keeps_model (store_of old) → g.keeps_model store
     pub layout : g.keeps_model (store_of old) → IsBadLayout (g.sector_count store) (g.content store) → ⊥
     pub journal : g.keeps_model (store_of old) → IsBadJournal (g.sector_count store) (g.content store) → ⊥
-    pub pool : g.keeps_model (store_of old) → HasSmallPool (g.content store) → ⊥
     pub opening : g.keeps_model (store_of old) → ((k : ℕ) → g.unsynced store k → ⊥)
         → LeavesOnly g store (store_of old) (StandsAs (g.sector_count store) (g.content store))
     pub in_a_row : g.keeps_model (store_of old) → ((k : ℕ) → g.unsynced store k → ⊥) → (first : Image) → StandsAs (g.sector_count store) first (g.content store)

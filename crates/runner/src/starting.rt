@@ -22,7 +22,7 @@ pub struct Devices<D, E> {
 /// ended (`run`).
 ///
 /// Where the machine does not start, nothing was read or written, and the store device is handed back with the fault:
-/// `Frames`, `Slots`, `BadLayout`, `BadJournal` and `SmallPool` exactly where the sizes or the image are so, in this order, unless another
+/// `Frames`, `Slots`, `BadLayout` and `BadJournal` exactly where the sizes or the image are so, in this order, unless another
 /// fault comes first; `Device` exactly where the store device failed; `OutOfMemory` for want of memory (`Machine::boot`).
 pub fn run_on<R: Read, W: Write, D: SectorDisk, E: SectorDisk + Drop>(
     alloc: Global,

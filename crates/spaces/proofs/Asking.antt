@@ -6,7 +6,7 @@ use Rattle.spaces.{proofs.{Names.{Done, Faulted, Refused, Stalled, Width, with_n
 use Rattle.{spaces.{proofs.Room.{room_left}, specs.{Accesses.{WritesNumber}, Idle.{is_denial}}}, vm_types.specs.declared.access.Access.TheVariants.{Store}}
 use Rattle.{disk_model.specs.Stop.{NamesOnce}, fault.specs.{AccessAsking.{IsSectorShown}, Chances.{AreAllMarkedFor, GivesOthersChance, WantsOneFrame}}}
 use Rattle.fault.specs.declared.refusal.AccessRefusal.TheVariants as Refusal
-use Rattle.{stores.specs.Store.{disk_of, kept_of, HasRoomFor}, vm_types.specs.Limits.{msync_pages}}
+use Rattle.stores.specs.Store.{disk_of, kept_of, HasRoom}
 
 -- nothing was written
 pub writes_none : {M : Type 0} {m : Levels.Ghosts M} → {D E : Type 0} (access : Access) (c : Core D E M m) → MayWrite access c c
@@ -70,7 +70,7 @@ module _ {M : Type 0} {m : Levels.Ghosts M} {D E : Type 0} (g : Ghosts D) (h : G
 module _ {M : Type 0} {m : Levels.Ghosts M} {D E : Type 0} (g : Ghosts D) (h : Ghosts E) where
   -- where there is no place
   pub keeps_refused : (old new : Core D E M m) (pid addr : ℕ) (width : Width) (access : Access) (r : Result Phys AccessRefusal) (refusal : AccessRefusal)
-      → Reaches g h old new pid addr width access r → IsRefusal g h old new pid addr width access refusal → HasRoomFor msync_pages (kept_of old.store)
+      → Reaches g h old new pid addr width access r → IsRefusal g h old new pid addr width access refusal → HasRoom (kept_of old.store)
       → KeepsToPage g h old new pid addr access (reply_of (reply_for refusal))
   keeps_refused old new pid addr width access r refusal reached is had =
       let goes = reached.proceeds in

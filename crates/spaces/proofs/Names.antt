@@ -3,7 +3,7 @@ pub use Rattle.{disk_model.specs.{Moments.{AsksOnly, Nothing}, declared.sector_d
 pub use Rattle.fault.proofs.{Asking.{asks_slots_same}, Forms.{shared_none, mapped_page}, Ready.{view-mapped, own_in-none}, Serving.{tends_none}, Settled.{one_view}, Storing.{views_others, views_file, view-attr, fit_own, fit_file}}
 pub use Rattle.fault.{proofs.{Storing.{entries_own, entries_file}, SwapSteps.{ready_released}}, specs.{Changes.{KeepsSlotted, IsThatPage, KeepsRoom, KeepsSeen, KeepsOtherViews}, Files.{BringsFiles, Proceeds}, Outcome.{IsRefusal}}}
 pub use Rattle.fault.specs.{Outcome.{IsReadyFor, Reads, Grants, verdict_of, IsFrameFor, IsReadyToStore, IsOpenToStore, IsWalked}, Serving.{Reaches, Tends}, Wants.{RefusesAccess, ShowsFile, ReadsHome}}
-pub use Rattle.{fault.specs.declared.refusal.AccessRefusal.{AccessRefusal}, stores.specs.{Store.{IsReadyStore, HasRoomFor, files_of, kept_of}, declared.store.Store.{Store as AnyStore}}, frames.proofs.FrameLemmas.{with_bytes-others, IsHeld-not_zero}}
+pub use Rattle.{fault.specs.declared.refusal.AccessRefusal.{AccessRefusal}, stores.specs.{Store.{IsReadyStore, HasRoom, files_of, kept_of}, declared.store.Store.{Store as AnyStore}}, frames.proofs.FrameLemmas.{with_bytes-others, IsHeld-not_zero}}
 pub use Rattle.frames.{proofs.FrameLemmas.{IsHeld-above, IsSound-step}, specs.{FrameTable.{with_bytes, bytes_of, frame_count, IsFrame, IsFull, IsHeld, FrameTable, IsSound}, declared.role.Role.{Role, TheVariants.{Free}}}}
 pub use Rattle.lifecycle.{proofs.{Returned.{none_taken, still_framed}, Shortage.{tables_alike}}, specs.Changes.{AddsProcess, RemovesProcess, KeepsProcesses, TakesNoFrame, TakesRoot, StallsToFork, ForksEntries, TakesTables}}
 pub use Rattle.{msync.{proofs.Settled.{held_framed}, specs.Shows.{IsSoundCore, CoreShows}}, page_cache.{proofs.CountLemmas.{any_below-none}, specs.CacheTable.{is_touched, place_of}}, page_tables.specs.Change.{KeepsFrames}}
@@ -17,7 +17,7 @@ pub use Rattle.std.proofs.{Common.{◌≤◌, ◌+◌, ◌&&◌, not, ◌||◌, 
 pub use Rattle.{std.{proofs.lemmas.{Bool.{false_from_ne_true, Decides.{nat_tests}}, Option.{none-some, same_Some}}, specs.Prelude.{IfOk, get_or}}, sv39_walk.specs.Walk.{is_store}, swap.specs.Slots.{slots_of, SlotTable}}
 pub use Rattle.{swap.specs.declared.slots.Swap.{Swap}, vm_types.{proofs.{Modes.{sizes}, Naming.{any-at}, NewObjects.{least-clear, free-unused}}, specs.{Access.{with_number, loaded, with_shown_bytes}, Attributes.{attr_after}}}}
 pub use Rattle.vm_types.specs.{Attributes.{backing_after, backing_fits, with_prot}, Capacity.{tables_of}, Checks.{first_of, Check, page_count, pages_from}, Counting.{any_below}, Files.{Files}, Limits.{user_end, named_limit, object_limit}}
-pub use Rattle.vm_types.specs.{Limits.{widest_end, msync_pages}, Mapping.{first_attr, mapped, mmap_errno, attr_for, mmap_place, with_mapping, has_too_many_runs, place_for, is_taken, first_backing}, Objects.{named_objects, Maps, free_object, maps_of}}
+pub use Rattle.vm_types.specs.{Limits.{widest_end}, Mapping.{first_attr, mapped, mmap_errno, attr_for, mmap_place, with_mapping, has_too_many_runs, place_for, is_taken, first_backing}, Objects.{named_objects, Maps, free_object, maps_of}}
 pub use Rattle.vm_types.specs.{Objects.{is_of_object, is_used, uses, names, is_object_page, is_named}, Permission.{can_write, kept}, Placement.{is_free, is_place}, Processes.{without_space, without_process, least_free_pid, with_process}}
 pub use Rattle.vm_types.specs.{Ranges.{is_guarded_page, is_guarded, denies_stores, without_pages, unmapped, row_checks, permitted, reprotected, covered_checks, uncopied, without_own, munmap_checks, without_row}, Replies.{reply_of}}
 pub use Rattle.vm_types.specs.{Rows.{in_row, replaced, IsUserMap, removed, protected}, Runs.{run_count}, Stalls.{reads_swap, is_success, cause_of, is_open_to, needs_frames, reads_files}, State.{State, shown, copy_or_behind, with_view}}

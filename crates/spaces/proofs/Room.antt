@@ -1,11 +1,11 @@
 -- Memory of the size that it was, and sound as it was.
 use Rattle.vm_types.specs.declared.mode.Levels as Levels
-use Rattle.spaces.proofs.Names.{◌≡◌, refl, sym, ap, ◌∙◌, subst, Ghosts, AnyStore, IsReadyStore, HasRoomFor, kept_of, msync_pages, ready_released, KeepsRoom, IsSoundCore, Core, IsFit, picture_of}
+use Rattle.spaces.proofs.Names.{◌≡◌, refl, sym, ap, ◌∙◌, subst, Ghosts, AnyStore, IsReadyStore, HasRoom, kept_of, ready_released, KeepsRoom, IsSoundCore, Core, IsFit, picture_of}
 use Rattle.page_cache.specs.CacheTable as CacheTable
 
 -- a store that keeps in memory what it kept has room for the commits that it had room for
-pub room_left : {D : Type 0} (old new : AnyStore D) → kept_of new ≡ kept_of old → HasRoomFor msync_pages (kept_of old) → HasRoomFor msync_pages (kept_of new)
-room_left old new same room = subst (HasRoomFor msync_pages) (sym same) room
+pub room_left : {D : Type 0} (old new : AnyStore D) → kept_of new ≡ kept_of old → HasRoom (kept_of old) → HasRoom (kept_of new)
+room_left old new same room = subst HasRoom (sym same) room
 
 module _ {M : Type 0} {m : Levels.Ghosts M} {D E : Type 0} (old new : Core D E M m) where
   -- there is a node for each frame and for each slot, so the map of places tells how many there are

@@ -122,20 +122,28 @@ fn prot(may: May) -> Prot {
 
 /// An msync. Memory is known to be sound after one that the store didn't fail, so the test ends where it did.
 fn synced<M: Levels>(
-    rt: &impl Abort,
+    rt: &(impl AllocGlobal + Abort),
     core: &mut Core<SimDisk, SimDisk, M>,
     call: SyncCall,
 ) -> Answer
     requires { IsSoundCore ⟦<SimDisk as SectorDisk>⟧ ⟦<SimDisk as SectorDisk>⟧ core.old }
     ensures { IsSoundCore ⟦<SimDisk as SectorDisk>⟧ ⟦<SimDisk as SectorDisk>⟧ core.new }
 {
-    match spaces::msync(core, &mut SyncRoom::new(), call) {
+    let nodes = core.frames.len() + core.swap.len();
+    let Ok(mut room) = SyncRoom::new(rt.alloc(), core.store.always_free_pages(), nodes) else {
+        panic!(rt; "memory");
+    };
+    match spaces::msync(core, &mut room, call) {
         Answer::Refused(Errno::EIO) => panic!(rt; "the store failed in an msync"),
         answer => answer,
     }
 }
 
-fn called<M: Levels>(rt: &impl Abort, core: &mut Core<SimDisk, SimDisk, M>, call: Call) -> Answer
+fn called<M: Levels>(
+    rt: &(impl AllocGlobal + Abort),
+    core: &mut Core<SimDisk, SimDisk, M>,
+    call: Call,
+) -> Answer
     requires { IsSoundCore ⟦<SimDisk as SectorDisk>⟧ ⟦<SimDisk as SectorDisk>⟧ core.old }
     ensures { IsSoundCore ⟦<SimDisk as SectorDisk>⟧ ⟦<SimDisk as SectorDisk>⟧ core.new }
 {
@@ -324,7 +332,12 @@ fn look<M: Levels>(rt: &impl Abort, core: &Core<SimDisk, SimDisk, M>, name: &str
 }
 
 /// Does one step, and ends the test where it isn't as is wanted.
-fn take<M: Levels>(rt: &impl Abort, core: &mut Core<SimDisk, SimDisk, M>, name: &str, step: Step)
+fn take<M: Levels>(
+    rt: &(impl AllocGlobal + Abort),
+    core: &mut Core<SimDisk, SimDisk, M>,
+    name: &str,
+    step: Step,
+)
     requires { IsSoundCore ⟦<SimDisk as SectorDisk>⟧ ⟦<SimDisk as SectorDisk>⟧ core.old }
     ensures { IsSoundCore ⟦<SimDisk as SectorDisk>⟧ ⟦<SimDisk as SectorDisk>⟧ core.new }
 {
@@ -347,9 +360,9 @@ fn steps_of(alloc: Global, row: Row<'_>) -> Result<Vec<Step>, AllocError> {
 }
 
 /// Takes the steps of a row in new memory of that mode.
-fn follow_row<M: Levels>(rt: &impl Abort, alloc: Global, row: Row<'_>) -> Result<(), Fail> {
-    let steps = steps_of(alloc, row)?;
-    let mut core = memory::<M>(alloc, row.sizes)?;
+fn follow_row<M: Levels>(rt: &(impl AllocGlobal + Abort), row: Row<'_>) -> Result<(), Fail> {
+    let steps = steps_of(rt.alloc(), row)?;
+    let mut core = memory::<M>(rt.alloc(), row.sizes)?;
     for step in steps.iter() {
         take(rt, &mut core, row.name, *step);
     }
@@ -358,12 +371,11 @@ fn follow_row<M: Levels>(rt: &impl Abort, alloc: Global, row: Row<'_>) -> Result
 
 /// Takes the steps of each row in new memory of that mode.
 pub(crate) fn follow<M: Levels>(
-    rt: &impl Abort,
-    alloc: Global,
+    rt: &(impl AllocGlobal + Abort),
     rows: &[Row<'_>],
 ) -> Result<(), Fail> {
     for row in rows {
-        follow_row::<M>(rt, alloc, *row)?;
+        follow_row::<M>(rt, *row)?;
     }
     Ok(())
 }

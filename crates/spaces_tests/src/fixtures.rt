@@ -2,8 +2,7 @@
 ghost use Rattle.std.specs.Prelude.{IfOk};
 ghost use Rattle.file_store.specs.Standing.{AreBounded};
 ghost use Rattle.msync.specs.Shows.{IsSoundCore};
-ghost use Rattle.stores.specs.Store.{IsReadyStore, HasRoomFor, files_of, kept_of};
-ghost use Rattle.vm_types.specs.Limits.{msync_pages};
+ghost use Rattle.stores.specs.Store.{IsReadyStore, HasRoom, files_of, kept_of};
 
 use disk_model::{DiskFault, SectorDisk, SimDisk};
 use file_store::{FileSource, format};
@@ -59,7 +58,7 @@ fn begin_file(disk: &mut SimDisk, first: u8) -> Result<(), DiskFault> {
 // The store on a device, which has no pool.
 fn opened(alloc: Global, disk: SimDisk) -> Result<Store<SimDisk>, OpenFault>
     ensures ready { IfOk result (λ store. IsReadyStore ⟦<SimDisk as SectorDisk>⟧ store) }
-    ensures room { IfOk result (λ store. HasRoomFor msync_pages (kept_of store)) }
+    ensures room { IfOk result (λ store. HasRoom (kept_of store)) }
     ensures bounded { IfOk result (λ store. AreBounded (files_of store)) }
 {
     match Store::open(alloc, disk) {

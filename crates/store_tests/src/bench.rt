@@ -1,13 +1,14 @@
 //! What the tests share: images of stores, whose bytes are worked out by hand, and what a stop leaves of a new one.
 ghost use Rattle.std.specs.Prelude.{◌≡◌, IfOk};
-ghost use Rattle.file_store.specs.Store.{IsReadyStore};
+ghost use Rattle.stores.specs.Store.{IsReadyStore};
 
+use batches::check_page;
 use disk_model::{DiskFault, SectorDisk, SimDisk};
-use file_store::{FileStore, OpenFault};
 use std::alloc::Global;
 use std::fmt::Debug;
 use std::process::Abort;
 use std::test::Fail;
+use stores::{OpenFault, Store};
 use vm_types::FilePage;
 
 /// The first sector of the homes of layout 3, as the format has it.
@@ -79,22 +80,21 @@ pub(crate) fn holds(disk: &SimDisk, wanted: &[(u64, [u8; 512])]) -> bool {
     true
 }
 
-pub(crate) fn opened(disk: SimDisk) -> Result<FileStore<SimDisk>, OpenFault>
+pub(crate) fn opened(alloc: Global, disk: SimDisk) -> Result<Store<SimDisk>, OpenFault>
     ensures { IfOk result (λ store. IsReadyStore ⟦<SimDisk as SectorDisk>⟧ store) }
 {
-    match FileStore::open(disk) {
+    match Store::open(alloc, disk) {
         Ok(store) => Ok(store),
         Err((fault, _)) => Err(fault),
     }
 }
 
 /// The first byte of a page, or none where it does not begin inside its file.
-pub(crate) fn first_byte(store: &mut FileStore<SimDisk>, page: FilePage) -> Option<u8>
+pub(crate) fn first_byte(store: &mut Store<SimDisk>, page: FilePage) -> Option<u8>
     requires { IsReadyStore ⟦<SimDisk as SectorDisk>⟧ store.old }
     ensures { IsReadyStore ⟦<SimDisk as SectorDisk>⟧ store.new }
 {
-    let info = store.file(page.file)?;
-    if 4096 * u64::from(page.page) >= u64::from(info.length) {
+    if !check_page(store, page) {
         return None;
     }
     let mut bytes = [0; 4096];
@@ -159,7 +159,7 @@ pub(crate) fn check_left(
             !marked || are_same(&image, whole),
             "a mark without the whole store",
         )?;
-        let fault = opened(image).err();
+        let fault = opened(alloc, image).err();
         let wanted = if marked {
             None
         } else {

@@ -60,7 +60,7 @@ fn formats_files_one_after_another(rt: HostRuntime) -> Result<(), Fail> {
         equal(&rt, format(&mut disk, journals, &mut sources), Ok(()));
         equal(&rt, (disk.writes(), disk.syncs()), calls);
         expect(holds(&disk, &wanted), "the new store")?;
-        let mut store = opened(disk.left(rt.alloc(), &[])?)?;
+        let mut store = opened(rt.alloc(), disk.left(rt.alloc(), &[])?)?;
         let last = first_byte(&mut store, FilePage { file: 0, page: 1 });
         equal(&rt, last, Some(0));
         let only = first_byte(&mut store, FilePage { file: 1, page: 0 });

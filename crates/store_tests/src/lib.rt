@@ -4,13 +4,15 @@
 #[cfg(test)]
 mod bench;
 #[cfg(test)]
+mod commits;
+#[cfg(test)]
 mod disks;
 #[cfg(test)]
 mod formats;
 #[cfg(test)]
-mod requests;
+mod pools;
 #[cfg(test)]
-mod stores;
+mod requests;
 #[cfg(test)]
 mod turns;
 #[cfg(test)]

@@ -1,8 +1,8 @@
 //! Requests of a client over a device in memory.
-use crate::bench::equal;
+use crate::bench::{equal, opened};
 use batches::{ServeEnd, serve};
 use disk_model::SimDisk;
-use file_store::{FileSource, FileStore, format};
+use file_store::{FileSource, format};
 use std::alloc::Global;
 use std::test::Fail;
 use sync_journal::Journals;
@@ -16,9 +16,7 @@ fn served(alloc: Global, requests: &[u8]) -> Result<(ServeEnd, Vec<u8>), Fail> {
         bytes: None,
     };
     format(&mut disk, Journals::Single, &mut [file(false), file(true)])?;
-    let Ok(mut store) = FileStore::open(disk) else {
-        return Err(Fail::new("the store was not opened"));
-    };
+    let mut store = opened(alloc, disk)?;
     let mut input = requests;
     let mut output = Vec::new(alloc);
     let end = serve(alloc, &mut store, &mut input, &mut output)?;

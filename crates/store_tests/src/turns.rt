@@ -1,14 +1,14 @@
 //! Stores of layout 3: two journals in turn.
 ghost use Rattle.std.specs.Prelude.{IfOk};
-ghost use Rattle.file_store.specs.Store.{IsReadyStore};
+ghost use Rattle.stores.specs.Store.{IsReadyStore};
 
 use crate::bench::{equal, expect, first_byte, holds, image, left, opened, repeated, sector_with};
-use crate::stores::{Filled, commits};
-use batches::check_pages;
+use crate::commits::{Filled, check, commits};
 use disk_model::{SectorDisk, SimDisk};
 use file_store::{FileSource, FileStore, OpenFault, format};
 use std::alloc::Global;
 use std::test::Fail;
+use stores::Store;
 use sync_journal::{CommitFault, Journals};
 use vm_types::FilePage;
 
@@ -17,7 +17,7 @@ const FIRST: FilePage = FilePage { file: 0, page: 0 };
 const SECOND: FilePage = FilePage { file: 1, page: 0 };
 
 /// A store of two files of a page of zeros each, which stops at that write, if any.
-fn two_files(alloc: Global, write: u64) -> Result<FileStore<SimDisk>, Fail>
+fn two_files(alloc: Global, write: u64) -> Result<Store<SimDisk>, Fail>
     ensures { IfOk result (λ store. IsReadyStore ⟦<SimDisk as SectorDisk>⟧ store) }
 {
     let mut disk = SimDisk::new(alloc, 16424)?;
@@ -29,7 +29,7 @@ fn two_files(alloc: Global, write: u64) -> Result<FileStore<SimDisk>, Fail>
     format(&mut disk, Journals::Paired, &mut [file(), file()])?;
     let mut disk = disk.left(alloc, &[])?;
     disk.stop_at(write);
-    Ok(opened(disk)?)
+    Ok(opened(alloc, disk)?)
 }
 
 /// What the commit of the second page after that of the first leaves that is stopped at that write.
@@ -40,9 +40,7 @@ fn stopped_commit(alloc: Global, write: u64) -> Result<SimDisk, Fail> {
         commits(&mut store, &[FIRST], &mut source)?,
         "the first commit",
     )?;
-    if check_pages(&store, &[SECOND]).is_err() {
-        return Err(Fail::new("the second page"));
-    }
+    check(&store, &[SECOND])?;
     expect(
         store.commit(&[SECOND], &mut source) == Err(CommitFault::Device),
         "the commit was not stopped",
@@ -56,11 +54,11 @@ fn a_commit_takes_two_syncs_and_leaves_homes_that_the_next_one_takes(
 ) -> Result<(), Fail> {
     let mut source = Filled { fails: false };
     let mut store = two_files(rt.alloc(), 0)?;
-    // The opening: mark, kind and directory, a sync, and gate and map, which is empty.
+    // The opening: the mark, which is no pool's, mark, kind and directory, a sync, and gate and map, which is empty.
     equal(
         &rt,
         (store.disk().calls(), store.disk().writes()),
-        (3 + 1 + 1 + 8, 0),
+        (1 + 3 + 1 + 1 + 8, 0),
     );
     // A body, a map and the gate each; the last one copies the first page home.
     expect(commits(&mut store, &[FIRST], &mut source)?, "the first")?;
@@ -103,7 +101,7 @@ fn a_stopped_commit_and_stopped_openings_leave_the_page_before_or_after(
         for fill in fills {
             let after = write == 25 && fill.is_some() && fill != Some(gate);
             let second = if after { 1 } else { 0 };
-            let mut store = opened(left(alloc, &stopped, fill)?)?;
+            let mut store = opened(alloc, left(alloc, &stopped, fill)?)?;
             equal(&rt, first_byte(&mut store, FIRST), Some(1));
             equal(&rt, first_byte(&mut store, SECOND), Some(second));
         }
@@ -124,7 +122,7 @@ fn a_stopped_commit_and_stopped_openings_leave_the_page_before_or_after(
                 Ok(store) => store.into_disk(),
                 Err((_, disk)) => disk,
             };
-            let mut store = opened(left(alloc, &disk, fill)?)?;
+            let mut store = opened(alloc, left(alloc, &disk, fill)?)?;
             equal(&rt, first_byte(&mut store, FIRST), Some(1));
             equal(&rt, first_byte(&mut store, SECOND), Some(1));
         }

@@ -147,14 +147,14 @@ fn upgrades_a_store(rt: HostRuntime) -> Result<(), Fail> {
             Journals::Paired => [(1, repeated(row.mark)), (9, directory)],
         };
         expect(holds(&whole, &head), "the new store's head")?;
-        let mut store = opened(whole)?;
+        let mut store = opened(rt.alloc(), whole)?;
         let page = FilePage { file: 0, page: 0 };
         equal(&rt, first_byte(&mut store, page), Some(0x5a));
         // Where the gate is closed the home stands.
         let mut old = old_store(rt.alloc(), &row, 16, &[])?;
         let mut new = SimDisk::new(rt.alloc(), homes.saturating_add(16).min(20_000))?;
         equal(&rt, upgrade(&mut old, &mut new, row.journals), Ok(()));
-        let mut store = opened(new)?;
+        let mut store = opened(rt.alloc(), new)?;
         equal(&rt, first_byte(&mut store, page), Some(0x61));
     }
     Ok(())

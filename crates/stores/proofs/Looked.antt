@@ -1,4 +1,4 @@
--- An opening after a look at the mark, a device without a sector, and stops in a row.
+-- An opening after a look at the mark, or a store taken up after it, a device without a sector, and stops in a row.
 use Rattle.stores.proofs.Names.{ℕ, zero, suc, Bool, true, false, Result, Ok, Err, ◌≡◌, ◌<◌, ◌⊎◌, ◌∙◌, inl, refl, sym, subst, arith, stays, then, wider}
 use Rattle.stores.proofs.Names.{Ghosts, Image, AsksOnly, LeavesNow, LeavesOnly, MayLeave, Nothing, Touches, RunsOnDevice}
 use Rattle.std.specs.Prelude.{MatchResult}
@@ -7,8 +7,8 @@ use Rattle.sync_journal.proofs.Sectors.{reads_unsynced, same_content, so_before,
 use Rattle.sync_journal.specs.{Kinds.{kind_of}, declared.store_journal.Journals.{Journals, TheVariants.{Single, Paired}}}
 use Rattle.file_store.specs.{Standing.{IsBadLayoutIn.{TooSmall as FewSectors}}, Versions.{homes_of, version_at}}
 use Rattle.pool_store.specs.{Pools.{IsBadPool.{TooSmall}}, Resume.{HasPoolHead}}
-use Rattle.stores.specs.Images.{is_pool, says_by, IsBadLayout, IsBadJournal, IsClosed, IsOutside, IsAskedToOpen, IsWrittenToOpen, StandsAs}
-use Rattle.stores.specs.{Marks.{LooksAtMark}, Opened.{IsCarriedOut, LeftInARow, OpensFrom, RefusesToOpen, RunsOpening}, Store.{disk_of, kept_of}}
+use Rattle.stores.specs.Images.{free_pages, is_pool, most_pages, says_by, IsBadLayout, IsBadJournal, IsClosed, IsOutside, IsAskedToOpen, IsWrittenToOpen, StandsAs}
+use Rattle.stores.specs.{Marks.{LooksAtMark}, Opened.{IsCarriedOut, LeftInARow, OpensFrom, RefusesToOpen, RunsOpening}, Resumed.{IsAsNamed, ResumesFrom}, Store.{disk_of, kept_of, free_of, always_free_in}}
 use Rattle.stores.specs.declared.{faults.OpenFault.{OpenFault, TheVariants.{Device, BadLayout}}, store.Store.{Store}}
 
 -- Every layout has sectors before its homes, so that a device without one has no store, whatever its image.
@@ -108,6 +108,7 @@ module _ {D : Type 0} (g : Ghosts D) (old : D) (only_now : (d : D) (image : Imag
       good_journal = λ keeps. before (λ n image. IsBadJournal n image → ⊥) (o.run.kept keeps) (o.good_journal keeps);
       now = λ keeps. before (λ n image. LeavesNow g (disk_of store) (StandsAs n image)) (o.run.kept keeps) (o.now keeps);
       synced = o.synced;
+      most = λ keeps. before (λ n image. always_free_in (kept_of store) ≡ most_pages n image) (o.run.kept keeps) (o.most keeps);
       carried = λ keeps. before (λ n image. IsCarriedOut (kept_of store) image) (o.run.kept keeps) (o.carried keeps);
       emptied = λ keeps. before (λ n image. is_pool image ≡ false → IsClosed n (g.content (disk_of store))) (o.run.kept keeps) (o.emptied keeps);
       calm = o.calm ∙ look.cause.calm;
@@ -131,6 +132,29 @@ module _ {D : Type 0} (g : Ghosts D) (old : D) (only_now : (d : D) (image : Imag
         → MatchResult r (λ store. OpensFrom g old store) (λ e. RefusesToOpen g old e.0 e.1)
     since_look (Ok store) opened = opens_since store opened
     since_look (Err e) refused = refuses_since e.0 e.1 refused
+
+    -- So it is of a store that is taken up.
+    resumes_since : (store : Store D) → ResumesFrom g mid store → ResumesFrom g old store
+    resumes_since store r = record {
+      run = run_since (disk_of store) r.run;
+      pool_unwritten = λ keeps marked. then g Nothing old mid (disk_of store) (look.run.touches (r.run.kept keeps))
+          (before (λ n image. is_pool image ≡ true → Touches g Nothing mid (disk_of store)) (r.run.kept keeps) (r.pool_unwritten keeps) marked);
+      ready = r.ready;
+      bounded = r.bounded;
+      good_layout = λ keeps. before (λ n image. IsBadLayout n image → ⊥) (r.run.kept keeps) (r.good_layout keeps);
+      good_journal = λ keeps. before (λ n image. IsBadJournal n image → ⊥) (r.run.kept keeps) (r.good_journal keeps);
+      now = λ keeps. before (λ n image. LeavesNow g (disk_of store) (StandsAs n image)) (r.run.kept keeps) (r.now keeps);
+      synced = r.synced;
+      named = λ keeps. before (λ n image. IsAsNamed (kept_of store) image) (r.run.kept keeps) (r.named keeps);
+      free = λ keeps. before (λ n image. free_of store ≡ free_pages n image) (r.run.kept keeps) (r.free keeps);
+      most = λ keeps. before (λ n image. always_free_in (kept_of store) ≡ most_pages n image) (r.run.kept keeps) (r.most keeps);
+      calm = r.calm ∙ look.cause.calm;
+    }
+
+    pub resumed_since_look : (r : Result (Store D) (OpenFault × D)) → MatchResult r (λ store. ResumesFrom g mid store) (λ e. RefusesToOpen g mid e.0 e.1)
+        → MatchResult r (λ store. ResumesFrom g old store) (λ e. RefusesToOpen g old e.0 e.1)
+    resumed_since_look (Ok store) resumed = resumes_since store resumed
+    resumed_since_look (Err e) refused = refuses_since e.0 e.1 refused
 
 -- What any number of stops in a row leave, each within an opening of what the one before left, stands for what stood at first.
 pub still_stands : {D : Type 0} (g : Ghosts D) (sectors n : ℕ) (first last : Image) → LeftInARow g sectors n first last → StandsAs sectors first last

@@ -1,18 +1,20 @@
--- A store of a pool that is opened, in the words of stores of any layout.
+-- A store of a pool that is opened, or taken up as it stands, in the words of stores of any layout.
 use Rattle.stores.proofs.{Heads.{blocks_are, pages_are, same_blocks, same_mark, same_pages}, Says.{IsHeaded, as_pool, head_of}}
-use Rattle.stores.proofs.Names.{ℕ, ◌≡◌, ◌⊎◌, ◌∙◌, ◌<◌, ◌≤◌, ◌*◌, true, List, Option, Some, None, refl, sym, ap, subst, ⊎_elim, inl, inr, arith, bytes_eq-Decides}
-use Rattle.stores.proofs.Names.{Image, AsksOnly, Touches, Nothing, Ghosts, weaker, wider, true≢false}
+use Rattle.stores.proofs.Names.{ℕ, ◌≡◌, ◌⊎◌, ◌∙◌, ◌<◌, ◌≤◌, ◌*◌, true, false, List, Option, Some, None, refl, sym, ap, subst, ⊎_elim, inl, inr, arith, bytes_eq-Decides}
+use Rattle.stores.proofs.Names.{Bool, Image, AsksOnly, LeavesNow, Touches, Nothing, RunsOnDevice, Ghosts, weaker, wider, true≢false}
 use Rattle.std.{proofs.lemmas.{Bool.{cases_Bool, cases_lt}, Option.{none-some, same_Some}}, specs.{Option.{option_map}, Str.{bytes_eq}}}
 use Rattle.vm_types.specs.{Limits.{file_limit, file_page_limit}, declared.file.FileInfo.{FileInfo}}
 use Rattle.disk_model.proofs.Moments.{asks_wider}
 use Rattle.directories.specs.{Kinds.{IsKind, kind_sector}, Layouts.{entry_in}, declared.entry.Entry.{Entry}}
 use Rattle.file_store.specs.Standing.{AreBounded}
-use Rattle.pool_journal.{proofs.Loose.{map_high, map_low}, specs.Pools.{pool, pool_home_count}}
+use Rattle.sync_journal.proofs.Runs.{of_more}
+use Rattle.pool_journal.{proofs.{Counted.{free_and_live}, Loose.{map_high, map_low}, Taken.{live_same}}, specs.{Journal.{free_count}, Maps.{entries_of}, Pools.{pool, pool_entry, pool_home_count, pool_named}}}
 use Rattle.pool_store.specs.{Files.{info_in, info_of, page_in, StandsAs as PoolStandsAs}, Opened.{OpensPool, RefusesPool, IsWrittenToOpen}}
 use Rattle.pool_store.proofs.OneKind.{bad_by_all}
-use Rattle.pool_store.specs.{Pools.{files_in_pool, HaveBounds, IsBadPool, IsBadPool.{OtherKind}}, Resume.{IsAskedToOpen, IsAskedOf, IsAskedIn, IsNoPool}, Store.{layout_of}}
+use Rattle.pool_store.specs.{Pools.{files_in_pool, HaveBounds, IsBadPool, IsBadPool.{OtherKind}}, Store.{layout_of}}
+use Rattle.pool_store.specs.Resume.{IsAskedToOpen, IsAskedOf, IsAskedIn, IsNoPool, FindsStore, ResumesStore, RefusesToResume}
 use Rattle.pool_store.specs.declared.{faults.OpenFault.{OpenFault as PoolFault, TheVariants.{Device as PoolDevice, BadLayout as PoolLayout, Memory as PoolMemory}}, store.PoolStore.{PoolStore}}
-use Rattle.stores.specs.{Faults.{of_pool}, Images.{ImageSays, directory_pages, is_pool, map_blocks, says, says_by, StandsAs}, Opened.{OpensFrom, RefusesToOpen, RunsOpening}}
+use Rattle.stores.specs.{Faults.{of_pool}, Images.{ImageSays, directory_pages, free_pages, is_pool, map_blocks, most_pages, says, says_by, IsBadJournal, IsBadLayout, StandsAs}, Store.{files_of}, Opened.{OpensFrom, RefusesToOpen, RunsOpening}, Resumed.{ResumesFrom}}
 use Rattle.stores.specs.declared.{faults.OpenFault.TheVariants.{Device, BadLayout, BadJournal, Memory}, store.Store.TheVariants.{Pool}}
 
 -- what an image says by the layout of stores with maps of m blocks and a directory of d pages, on a device of so many sectors and n homes
@@ -22,6 +24,8 @@ pool_says m d n sectors image = record {
   page = page_in (files_in_pool m d n) image;
   HasBadLayout = (files_in_pool m d n).IsBad sectors image;
   HasBadJournal = (files_in_pool m d n).pages.IsBad sectors image;
+  most = 504 * m;
+  free = free_count m (pool_entry m n (pool_named image) image);
   IsClosed = (files_in_pool m d n).pages.IsClosed image;
   IsOutside = (files_in_pool m d n).pages.IsOutside image sectors;
   IsAsked = IsAskedToOpen sectors image;
@@ -105,6 +109,22 @@ outside_unwritten m n sectors image k = ⊎_elim
     (λ low. ⊎_elim (λ gate. omega (arith, gate, low)) (λ map. map_high m _ k map (omega (arith, low))))
     (λ high. ⊎_elim (λ gate. omega (arith, gate, high)) (λ map. map_low m _ k map (omega (arith, high))))
 
+-- maps that give the slots alike leave as many to none
+same_free : (m : ℕ) (one other : Bool → ℕ → ℕ) → ((body : Bool) (r : ℕ) → r < 504 * m → one body r ≡ other body r) → free_count m one ≡ free_count m other
+same_free m one other alike =
+    let first = live_same (one false) (other false) (504 * m) (alike false) in
+    let second = live_same (one true) (other true) (504 * m) (alike true) in
+    let ours = free_and_live m one in
+    let theirs = free_and_live m other in
+    omega (arith, first, second, ours, theirs)
+
+-- A store is found on a device, of which no more is asked for, and written, than an opening does.
+record IsFound {D : Type 0} (g : Ghosts D) (old : D) (store : PoolStore D) : Type 0 where
+  pub finds : FindsStore g old store
+  pub run : RunsOnDevice g ((layout_of store).pages.IsRecovered (g.content old) (g.sector_count old)) old store.disk
+  pub asks : g.keeps_model store.disk → AsksOnly g (IsAskedOf store (g.content old)) old store.disk
+  pub closed_unwritten : g.keeps_model store.disk → (layout_of store).pages.IsClosed (g.content old) → Touches g Nothing old store.disk
+
 module _ {D : Type 0} (g : Ghosts D) (old : D) where
   abbrev sectors : ℕ
   sectors = g.sector_count old
@@ -112,8 +132,8 @@ module _ {D : Type 0} (g : Ghosts D) (old : D) where
   abbrev image : Image
   image = g.content old
 
-  -- The store is opened.
-  module _ (store : PoolStore D) (o : OpensPool g old store) where
+  -- The store is found:
+  module _ (store : PoolStore D) (o : IsFound g old store) where
     abbrev m : ℕ
     m = store.journal.sizes.blocks
 
@@ -159,19 +179,70 @@ module _ {D : Type 0} (g : Ghosts D) (old : D) where
           (λ left stays. as_pool m d n sectors homes image left (head keeps) stays) (o.finds.stays.through.any_moment keeps still);
     }
 
-    pub pool_opens : OpensFrom g old (Pool store)
-    pool_opens = record {
-      run = runs;
-      ready = o.finds.ready;
-      bounded = are_bounded store.directory.entries.items o.finds.ready.is.is_directory.may.bounded;
-      good_layout = λ keeps bad. o.finds.good keeps (of_head m d n sectors homes image (head keeps) (λ (words : ImageSays). words.HasBadLayout) bad);
-      good_journal = λ keeps bad. of_head m d n sectors homes image (head keeps) (λ (words : ImageSays). words.HasBadJournal) bad;
-      now = λ keeps left may. as_pool m d n sectors homes image left (head keeps) (o.finds.now keeps left may);
-      synced = o.finds.synced;
-      carried = λ keeps. (o.finds.map keeps, o.anew keeps);
-      emptied = λ keeps none. absurd (true≢false (sym (head keeps).mark ∙ none));
-      calm = o.calm;
-    }
+    -- its image was that of a store,
+    good : g.keeps_model disk → IsBadLayout sectors image → ⊥
+    good keeps bad = o.finds.good keeps (of_head m d n sectors homes image (head keeps) (λ (words : ImageSays). words.HasBadLayout) bad)
+
+    no_bad_journal : g.keeps_model disk → IsBadJournal sectors image → ⊥
+    no_bad_journal keeps bad = of_head m d n sectors homes image (head keeps) (λ (words : ImageSays). words.HasBadJournal) bad
+
+    -- and stands for what it did,
+    stands : g.keeps_model disk → LeavesNow g disk (StandsAs sectors image)
+    stands keeps left may = as_pool m d n sectors homes image left (head keeps) (o.finds.now keeps left may)
+
+    bounds : AreBounded (files_of (Pool store))
+    bounds = are_bounded store.directory.entries.items o.finds.ready.is.is_directory.may.bounded
+
+    -- and it has as many slots as that says,
+    most : g.keeps_model disk → 504 * m ≡ most_pages sectors image
+    most keeps = by_head m d n sectors homes image (head keeps) (λ (words : ImageSays). 504 * m ≡ words.most) refl
+
+    -- and as many free.
+    free : g.keeps_model disk → free_count m (entries_of store.journal.map) ≡ free_pages sectors image
+    free keeps = by_head m d n sectors homes image (head keeps) (λ (words : ImageSays). free_count m (entries_of store.journal.map) ≡ words.free)
+        (same_free m (entries_of store.journal.map) (pool_entry m n (pool_named image) image) (o.finds.map keeps))
+
+  -- It is opened,
+  pub pool_opens : (store : PoolStore D) → OpensPool g old store → OpensFrom g old (Pool store)
+  pool_opens store o =
+      let found : IsFound g old store = record { finds = o.finds; run = o.run; asks = o.asks; closed_unwritten = o.closed_unwritten } in
+      record {
+        run = runs store found;
+        ready = o.finds.ready;
+        bounded = bounds store found;
+        good_layout = good store found;
+        good_journal = no_bad_journal store found;
+        now = stands store found;
+        synced = o.finds.synced;
+        most = most store found;
+        carried = λ keeps. (o.finds.map keeps, o.anew keeps);
+        emptied = λ keeps none. absurd (true≢false (sym (head store found keeps).mark ∙ none));
+        calm = o.calm;
+      }
+
+  -- or taken up as it stands.
+  pub pool_resumes : (store : PoolStore D) → ResumesStore g old store → ResumesFrom g old (Pool store)
+  pool_resumes store r =
+      let found : IsFound g old store = record {
+        finds = r.finds;
+        run = of_more g Nothing ((layout_of store).pages.IsRecovered image sectors) old store.disk (λ k none. absurd none) r.run;
+        asks = r.asks;
+        closed_unwritten = λ keeps closed. r.run.touches keeps;
+      } in
+      record {
+        run = runs store found;
+        pool_unwritten = λ keeps marked. r.run.touches keeps;
+        ready = r.finds.ready;
+        bounded = bounds store found;
+        good_layout = good store found;
+        good_journal = no_bad_journal store found;
+        now = stands store found;
+        synced = r.finds.synced;
+        named = λ keeps. (r.named keeps, r.finds.map keeps);
+        free = free store found;
+        most = most store found;
+        calm = r.calm;
+      }
 
   -- Or the device is given back: of an image of whatever kind, with the numbers that it has.
   module _ (marked : g.keeps_model old → is_pool image ≡ true) (fault : PoolFault) (new : D) (r : RefusesPool g old fault new) where
@@ -226,3 +297,15 @@ module _ {D : Type 0} (g : Ghosts D) (old : D) where
       layout_first = λ keeps is. absurd (no_journal fault is);
       memory = λ keeps is. r.blames.memory keeps (memory_of fault is);
     }
+
+  -- as it is where nothing at all is written.
+  pub pool_refuses_resume : (g.keeps_model old → is_pool image ≡ true) → (fault : PoolFault) (new : D) → RefusesToResume g old fault new → RefusesToOpen g old (of_pool fault) new
+  pool_refuses_resume marked fault new r = pool_refuses marked fault new (record {
+    blames = r.blames;
+    unwritten = λ keeps other. r.err_run.touches keeps;
+    bad_unwritten = λ keeps bad. r.err_run.touches keeps;
+    err_closed_unwritten = λ keeps m d is closed. r.err_run.touches keeps;
+    err_run = of_more g Nothing (IsWrittenToOpen sectors image) old new (λ k none. absurd none) r.err_run;
+    err_stays = r.err_stays;
+    err_asks = r.err_asks;
+  })

@@ -1,11 +1,12 @@
 -- The files that an image of a store stands for, of layout 2, 3 or 4. Layout 4 has a mark of its own; which of the other two it is says sector 1.
-use Rattle.std.specs.Prelude.{ℕ, ◌≡◌, ◌⊎◌, Bool, true, false, List, drop, Option}
+use Rattle.std.specs.Prelude.{ℕ, ◌*◌, ◌≡◌, ◌⊎◌, Bool, true, false, List, drop, Option}
 use Rattle.std.specs.Option.{option_map}
 use Rattle.std.specs.Str.{bytes_eq}
 use Rattle.byteorder.specs.Endian.{little_number}
 use Rattle.vm_types.specs.declared.file.FileInfo.{FileInfo}
 use Rattle.disk_model.specs.{Stop.{Image}}
-use Rattle.sync_journal.specs.Kinds.{by_kind}
+use Rattle.sync_journal.specs.{Kinds.{by_kind}, Layout.{page_limit}}
+use Rattle.pool_journal.specs.{Journal.{free_count}, Pools.{pool_entry, pool_home_count, pool_named}}
 use Rattle.file_store.specs.Layout.{pool_mark}
 use Rattle.file_store.specs.Standing as ByKind
 use Rattle.file_store.specs.Standing.{IsPageOf, bytes_of_pages}
@@ -37,6 +38,9 @@ pub record ImageSays : Type 1 where
   -- that it has no layout of a store, or a journal that no commit writes,
   pub HasBadLayout : Type 0
   pub HasBadJournal : Type 0
+  -- how many pages every commit may take as long as none took more, and how many the next one may take,
+  pub most : ℕ
+  pub free : ℕ
   -- that no page stands in a journal or a slot alone,
   pub IsClosed : Type 0
   -- which sectors lie outside of gate, journals, pool and homes,
@@ -52,6 +56,8 @@ says_by false sectors image = record {
   page = ByKind.standing_page image;
   HasBadLayout = ByKind.IsBadLayout sectors image;
   HasBadJournal = ByKind.IsBadJournal sectors image;
+  most = page_limit;
+  free = page_limit;
   IsClosed = by_kind.IsClosed image;
   IsOutside = by_kind.IsOutside image sectors;
   IsAsked = ByKind.IsAskedToOpen image;
@@ -62,6 +68,8 @@ says_by true sectors image = record {
   page = page_in (pool_of sectors image) image;
   HasBadLayout = (pool_of sectors image).IsBad sectors image;
   HasBadJournal = (pool_of sectors image).pages.IsBad sectors image;
+  most = 504 * map_blocks image;
+  free = free_count (map_blocks image) (pool_entry (map_blocks image) (pool_home_count (map_blocks image) sectors) (pool_named image) image);
   IsClosed = (pool_of sectors image).pages.IsClosed image;
   IsOutside = (pool_of sectors image).pages.IsOutside image sectors;
   IsAsked = InPool.IsAskedToOpen sectors image;
@@ -77,6 +85,12 @@ IsBadLayout sectors image = (says sectors image).HasBadLayout
 
 abbrev pub IsBadJournal : ℕ → Image → Type 0
 IsBadJournal sectors image = (says sectors image).HasBadJournal
+
+abbrev pub most_pages : ℕ → Image → ℕ
+most_pages sectors image = (says sectors image).most
+
+abbrev pub free_pages : ℕ → Image → ℕ
+free_pages sectors image = (says sectors image).free
 
 abbrev pub IsClosed : ℕ → Image → Type 0
 IsClosed sectors image = (says sectors image).IsClosed

@@ -4,5 +4,6 @@ pub mod Store
 pub mod Commit
 pub mod Rooms
 pub mod Opened
+pub mod Resumed
 pub mod Faults
 pub mod Marks

@@ -7,8 +7,8 @@ use Rattle.sync_journal.specs.Kinds.{store_live}
 use Rattle.pool_journal.specs.{Pools.{pool, pool_named}, Recovering.{GivesAsNamed}}
 use Rattle.file_store.specs.Standing.{AreBounded}
 use Rattle.pool_store.specs.Resume.{HasPoolHead}
-use Rattle.stores.specs.Images.{is_pool, IsBadLayout, IsBadJournal, IsClosed, IsOutside, IsAskedToOpen, IsWrittenToOpen, StandsAs}
-use Rattle.stores.specs.Store.{StoreKept, StoreKept.{OfJournals, OfPool}, disk_of, kept_of, files_of, IsReadyStore}
+use Rattle.stores.specs.Images.{is_pool, most_pages, IsBadLayout, IsBadJournal, IsClosed, IsOutside, IsAskedToOpen, IsWrittenToOpen, StandsAs}
+use Rattle.stores.specs.Store.{StoreKept, StoreKept.{OfJournals, OfPool}, disk_of, kept_of, files_of, always_free_in, IsReadyStore}
 use Rattle.stores.specs.declared.faults.OpenFault.{OpenFault}
 use Rattle.stores.specs.declared.faults.OpenFault.TheVariants.{Device, BadLayout, BadJournal, Memory}
 use Rattle.stores.specs.declared.store.Store.{Store}
@@ -48,6 +48,8 @@ module _ {D : Type 0} (g : Ghosts D) where
     pub good_journal : g.keeps_model (disk_of store) → IsBadJournal (g.sector_count old) (g.content old) → ⊥
     pub now : g.keeps_model (disk_of store) → LeavesNow g (disk_of store) (StandsAs (g.sector_count old) (g.content old))
     pub synced : g.keeps_model (disk_of store) → (k : ℕ) → g.unsynced (disk_of store) k → ⊥
+    -- every commit may take as many pages as the image says;
+    pub most : g.keeps_model (disk_of store) → always_free_in (kept_of store) ≡ most_pages (g.sector_count old) (g.content old)
     -- what a stop left is carried out, so that of layouts 2 and 3 the next opening writes nothing;
     pub carried : g.keeps_model (disk_of store) → IsCarriedOut (kept_of store) (g.content old)
     pub emptied : g.keeps_model (disk_of store) → is_pool (g.content old) ≡ false → IsClosed (g.sector_count old) (g.content (disk_of store))

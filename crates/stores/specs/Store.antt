@@ -66,12 +66,9 @@ abbrev pub always_free_in : StoreKept → ℕ
 always_free_in (OfJournals directory journal) = page_limit
 always_free_in (OfPool directory journal) = 504 * journal.sizes.blocks
 
--- There is room for commits of so many pages, one after the other:
-pub record HasRoomFor (pages : ℕ) (kept : StoreKept) : Type 0 where
-  -- for the next one,
-  pub next : pages ≤ free_in kept
-  -- and for each after it, as long as none takes more.
-  pub always : pages ≤ always_free_in kept
+-- the next commit may take as many pages as every commit
+abbrev pub HasRoom : StoreKept → Type 0
+HasRoom kept = always_free_in kept ≤ free_in kept
 
 module _ {D : Type 0} where
   -- a store's device, and what it keeps

@@ -11,6 +11,7 @@ mod faults;
 mod marks;
 mod new_stores;
 mod opening;
+mod resuming;
 mod rooms;
 mod store;
 

@@ -7,7 +7,8 @@ ghost use Rattle.stores.specs.Store.{disk_of, kept_of, files_of, free_of, always
 use disk_model::{DiskFault, SectorDisk};
 use file_store::FileStore;
 use pool_store::PoolStore;
-use vm_types::{FileInfo, FilePage, MSYNC_PAGES};
+use sync_journal::PAGE_LIMIT;
+use vm_types::{FileInfo, FilePage};
 
 /// Up to 64 files of fixed lengths on a device.
 #[derive(Drop)]
@@ -67,7 +68,7 @@ impl<D: SectorDisk> Store<D> {
         ensures { result ≡ free_of self.now }
     {
         match self {
-            Store::Journals(_) => MSYNC_PAGES,
+            Store::Journals(_) => PAGE_LIMIT,
             Store::Pool(store) => store.free_pages(),
         }
     }
@@ -78,7 +79,7 @@ impl<D: SectorDisk> Store<D> {
         ensures { result ≡ always_free_in (kept_of self.now) }
     {
         match self {
-            Store::Journals(_) => MSYNC_PAGES,
+            Store::Journals(_) => PAGE_LIMIT,
             Store::Pool(store) => store.body_pages(),
         }
     }

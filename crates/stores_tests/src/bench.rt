@@ -2,7 +2,7 @@
 ghost use Rattle.std.specs.Prelude.{◌≡◌, ◌<◌, ℕ, true, IfOk, IsTrue, IsFalse, OnOk, Some, get_or, if◌then◌else◌, length, replicate, slice_get};
 ghost use Rattle.file_store.specs.Standing.{IsPageOf};
 ghost use Rattle.vm_types.specs.declared.file.FilePage.{FilePage};
-ghost use Rattle.stores.specs.Store.{files_of, free_of, least_of, IsReadyStore};
+ghost use Rattle.stores.specs.Store.{disk_of, files_of, free_of, least_of, IsReadyStore};
 ghost use Rattle.stores.specs.Commit.{ArePages};
 
 use disk_model::{SectorDisk, SimDisk};
@@ -138,6 +138,17 @@ pub(crate) fn opened(alloc: Global, disk: SimDisk) -> Result<Store<SimDisk>, Fai
     }
 }
 
+/// Takes the store up on a device that is handed on.
+pub(crate) fn resumed(alloc: Global, disk: SimDisk) -> Result<Store<SimDisk>, Fail>
+    requires { (k : ℕ) → ⟦<SimDisk as SectorDisk>⟧.unsynced disk k → ⊥ }
+    ensures { IfOk result (λ store. IsReadyStore ⟦<SimDisk as SectorDisk>⟧ store) }
+{
+    match Store::resume(alloc, disk) {
+        Ok(store) => Ok(store),
+        Err((fault, _)) => Err(Fail::from(fault)),
+    }
+}
+
 /// Why the store on a device is not opened, and how many calls of the device were writes then.
 pub(crate) fn refusal(alloc: Global, disk: SimDisk) -> (Option<OpenFault>, u64) {
     match Store::open(alloc, disk) {
@@ -212,7 +223,8 @@ pub(crate) fn commits(
     bytes: &[u8],
 ) -> Result<bool, Fail>
     requires { IsReadyStore ⟦<SimDisk as SectorDisk>⟧ store.old }
-    ensures { IfOk result (λ done. IsTrue done → IsReadyStore ⟦<SimDisk as SectorDisk>⟧ store.new) }
+    ensures ready { IfOk result (λ done. IsTrue done → IsReadyStore ⟦<SimDisk as SectorDisk>⟧ store.new) }
+    ensures synced { IfOk result (λ done. IsTrue done → (k : ℕ) → ⟦<SimDisk as SectorDisk>⟧.unsynced (disk_of store.new) k → ⊥) }
 {
     if pages.len() != bytes.len() {
         return Err(Fail::new("not a byte for each page"));

@@ -1,5 +1,8 @@
 //! Stores of each layout that are opened, and what is no store.
-use crate::bench::{Layout, bytes, equal, left, made, opened, refusal};
+use crate::bench::{
+    FIRST, LAST, LOCKED, Layout, bytes, commits, equal, expect, left, made, opened, refusal,
+    resumed,
+};
 use disk_model::{SectorDisk, SimDisk};
 use std::test::Fail;
 use stores::OpenFault;
@@ -29,6 +32,36 @@ fn a_store_has_the_files_that_it_is_made_of(rt: HostRuntime) -> Result<(), Fail>
         equal(&rt, (store.free_pages(), store.always_free_pages()), most);
         equal(&rt, bytes(&mut store)?, *b"aab");
         equal(&rt, store.disk().writes(), 0);
+    }
+    Ok(())
+}
+
+// Of layout 2 the open journal is carried out, three pages and then the gate; of the others nothing is written.
+#[test]
+fn a_store_is_taken_up_as_it_stands(rt: HostRuntime) -> Result<(), Fail> {
+    let alloc = rt.alloc();
+    for (layout, free, written) in [
+        (Layout::Two, 1023, 3 * 8 + 1),
+        (Layout::Three, 1023, 0),
+        (Layout::Four, 1008 - 3, 0),
+    ] {
+        let mut store = opened(alloc, made(alloc, layout)?)?;
+        expect(
+            commits(&mut store, &[LOCKED, LAST, FIRST], b"xyz")?,
+            "a commit",
+        )?;
+        let disk = store.into_disk();
+        let writes = disk.writes();
+        let mut store = resumed(alloc, disk)?;
+        equal(&rt, bytes(&mut store)?, *b"zyx");
+        equal(&rt, store.free_pages(), free);
+        equal(
+            &rt,
+            store.disk().writes().checked_sub(writes),
+            Some(written),
+        );
+        expect(commits(&mut store, &[LAST], b"w")?, "the next commit")?;
+        equal(&rt, bytes(&mut store)?, *b"zwx");
     }
     Ok(())
 }

@@ -15,7 +15,7 @@ out_of_page first n not = ⊎_elim
     (cases_lt n (first + 8)))
     (cases_lt n first)
 
-is_or_not : (first n : ℕ) → IsOfPage first n ⊎ (IsOfPage first n → ⊥)
+pub is_or_not : (first n : ℕ) → IsOfPage first n ⊎ (IsOfPage first n → ⊥)
 is_or_not first n = ⊎_elim (λ before. inr (λ is. omega (arith, before, is.0)))
     (λ from. ⊎_elim (λ below. inl (from, below)) (λ behind. inr (λ is. omega (arith, behind, is.1))) (cases_lt n (first + 8)))
     (cases_lt n first)
@@ -123,8 +123,8 @@ module _ {calls calls' : List Call} {rows rows' : List (List ℕ)} {used used' :
   unsynced_now : (n : ℕ) → is_left_unsynced calls' used' n ≡ (if is_sync_call (Some call) then false else (writes_to (Some call) n || is_left_unsynced calls used n))
   unsynced_now n = rw (lists.more, lists.call_here, same_unsynced used n (omega arith)) refl
 
-  pub time : Elapses (used + 2) (used' + 2) (PlanLeftSince calls rows pages first used) (PlanLeftSince calls' rows' pages first used') (image_after calls' rows' pages first used') (IsLeftUnsynced calls' used')
-  time = record {
+  pub time : (room : ℕ) → Elapses (used + 2) (used' + 2) (PlanLeftSince calls rows pages first room used) (PlanLeftSince calls' rows' pages first room used') (image_after calls' rows' pages first used') (IsLeftUnsynced calls' used')
+  time room = record {
     later = omega (arith, lists.more);
     nothing_else = λ t c le left. ⊎_elim (λ named. inl (inl named)) (⊎_elim (λ named. inl (inr (inl named)))
         (λ had. ⊎_elim (λ now. inr (subst (λ (k : ℕ). MayLeave (image_after calls' rows' pages first k) (IsLeftUnsynced calls' k) c) (omega (arith, now, had.2, lists.more)) had.3))

@@ -1,8 +1,8 @@
 -- From what the store says of a plan as a device to what stops of the calls leave.
-use Rattle.sync_plans.proofs.{Growth.{alike_leaves, alike_image}, Names.{ℕ, zero, suc, ◌+◌, if◌then◌else◌, ◌<◌, ◌≤◌, ◌≡◌, ◌≢◌, ◌⊎◌, Bool, true, false, ◌||◌, IsTrue, List, [], ◌∷◌, Option, Some, slice_get, length, inl, inr, ⊎_elim, refl}}
-use Rattle.sync_plans.proofs.Names.{sym, ap, subst, ◌∙◌, arith, cases_Bool, cases_lt, false≢true, slice_get_past, slice_get-get_or, get_or, fun_ext, FileInfo, Image, MayLeave, turn_kind, kind_of, Journals, Single, Paired, mark, version_at}
-use Rattle.sync_plans.{proofs.Names.{mark_of, StandsFor, Unmarked, StandsForEither}, specs.{Device.{label, PlanLeftSince}, Pages.{bytes_or_none, lent_page}, Plans.{row, written_bytes, is_written, writes_to, is_sync_call, is_left_unsynced}}}
-use Rattle.sync_plans.specs.{Plans.{IsLeftUnsynced, image_after, StopLeaves, After, Within}, Requests.{HasLayout}, declared.{call.Call.{Call}, lent_pages.PageBytes.{PageBytes}}}
+use Rattle.sync_plans.proofs.{Growth.{alike_leaves, alike_image}, Names.{ℕ, zero, suc, ◌+◌, if◌then◌else◌, ◌<◌, ◌≤◌, ◌≡◌, ◌≢◌, ◌⊎◌, Bool, true, false, ◌||◌, IsTrue, List, [], ◌∷◌, Some, slice_get, length, inl, inr, ⊎_elim, refl, sym, ap, subst, ◌∙◌}}
+use Rattle.sync_plans.proofs.Names.{arith, cases_Bool, cases_eq, false≢true, get_or, get_or_past, drop, fun_ext, Image, MayLeave, Nothing, mark, pool_mark, turn_kind, kind_of, Journals, Single, Paired, version_at, mark_of, Unmarked, ImageSays, is_pool, in_kind, pool_marked, IsBadLayout, IsBadJournal}
+use Rattle.sync_plans.specs.{Device.{label}, PlanDisk.{pages_of, content_of, unsynced_in, IsLost, plan_moment, left_in}, Plans.{row, written_bytes, is_written, writes_to, is_sync_call, is_left_unsynced, IsLeftUnsynced, image_after, StopLeaves, After, Within}}
+use Rattle.sync_plans.specs.{Requests.{HasLayout, IsStore}, declared.{call.Call.{Call}, plan_disk.PlanDisk.{PlanDisk}}}
 
 -- nothing is left but what was there
 pub nothing_done : (calls : List Call) (rows : List (List ℕ)) (pages : ℕ → List ℕ) (first : Image) (used : ℕ) (c : Image) → used ≡ 0
@@ -70,96 +70,111 @@ unfolding mark turn_kind is_none
 unmarked Single e = false≢true (sym (ap is_none e))
 unmarked Paired e = false≢true (sym (ap is_none e))
 
-no_layout : (sectors : ℕ) (image : Image) → HasLayout sectors image → image 0 ≡ [] → ⊥
-no_layout sectors image good blank = good (Unmarked (λ e. unmarked (kind_of image) (sym blank ∙ e)))
+no_pool : [] ≢ pool_mark
+unfolding pool_mark is_none
+no_pool e = false≢true (sym (ap is_none e))
 
-same_label : (one other : Image) → label one ≡ label other → one ≡ other
-same_label one other e = fun_ext (λ n. ap (λ (f : Image). f (suc n)) e)
+pub no_layout : (sectors : ℕ) (image : Image) → HasLayout sectors image → image 0 ≡ [] → ⊥
+no_layout sectors image good blank = from (is_pool image) refl
+  where
+    from : (pool : Bool) → is_pool image ≡ pool → ⊥
+    from true is = no_pool (sym blank ∙ pool_marked image is)
+    from false other = good (in_kind (λ (said : ImageSays). said.HasBadLayout) sectors image other (Unmarked (λ e. unmarked (kind_of image) (sym blank ∙ e))))
 
--- two states of a plan began alike
-module _ (calls0 calls : List Call) (rows0 rows : List (List ℕ)) (pages0 pages : ℕ → List ℕ) (first0 first : Image) (used0 used sectors : ℕ) (none : used0 ≡ 0) (good : HasLayout sectors first0)
-    (run : (t : ℕ) (c : Image) → t ≤ used0 + 2 → PlanLeftSince calls rows pages first used t c → PlanLeftSince calls0 rows0 pages0 first0 used0 t c ⊎ HasLayout sectors c) where
-  no_name : (c : Image) → c 0 ≡ [] → (k : ℕ) → k ≤ used0 → MayLeave (image_after calls0 rows0 pages0 first0 k) (IsLeftUnsynced calls0 k) c → ⊥
-  no_name c blank k le may = no_layout sectors first0 good (sym (ap (λ (f : Image). f 0) (nothing_done calls0 rows0 pages0 first0 k c (omega (arith, le, none)) may)) ∙ blank)
+-- nor one that a caller lends
+no_row : (number : ℕ) (first : Image) (image : List (List ℕ)) → label number first ≡ row image → ⊥
+unfolding is_none
+no_row number first image e = false≢true (ap is_none (ap (λ (f : Image). f (suc (length image))) e ∙ get_or_past image (suc (length image)) [] (omega arith)))
 
-  pub same_first : first ≡ first0
-  same_first = ⊎_elim
-      (⊎_elim (λ named. same_label first first0 named.1) (⊎_elim (λ named. absurd (omega (arith, named.0)))
-      (λ had. absurd (no_name (label first) refl had.0 had.2 had.3))))
-      (λ kept. absurd (no_layout sectors (label first) kept refl))
-      (run 0 (label first) (omega arith) (inl (refl, refl)))
+same_number : (m n : ℕ) (one other : Image) → label m one ≡ label n other → m ≡ n
+same_number m n one other e = ap (λ (f : Image). get_or (f 1) 0 0) e
 
-  pub same_pages : pages ≡ pages0
-  same_pages = ⊎_elim
-      (⊎_elim (λ named. absurd (omega (arith, named.0))) (⊎_elim (λ named. same_label pages pages0 named.1)
-      (λ had. absurd (no_name (label pages) refl had.0 had.2 had.3))))
-      (λ kept. absurd (no_layout sectors (label pages) kept refl))
-      (run 1 (label pages) (omega arith) (inr (inl (refl, refl))))
+same_image : (m n : ℕ) (one other : Image) → label m one ≡ label n other → one ≡ other
+same_image m n one other e = fun_ext (λ k. ap (λ (f : Image). drop 1 (f (suc k))) e)
 
--- A plan that was made as a device at `image0`, a store at every moment, and copied.
-module _ (calls0 calls calls' : List Call) (rows0 rows rows' image image0 image1 : List (List ℕ)) (pages pages0 pages1 : ℕ → List ℕ) (used0 used : ℕ)
-    (given : image0 ≡ image) (lent : pages0 ≡ pages) (none : used0 ≡ 0) (good : HasLayout (length image) (row image))
-    (run : (t : ℕ) (c : Image) → t ≤ used0 + 2 → PlanLeftSince calls rows pages1 (row image1) used t c
-    → PlanLeftSince calls0 rows0 pages0 (row image0) used0 t c ⊎ HasLayout (length image0) c) where
-  good0 : HasLayout (length image0) (row image0)
-  good0 = subst (λ (xs : List (List ℕ)). HasLayout (length xs) (row xs)) (sym given) good
+-- A plan that has begun, for which no write was lost,
+module _ (d0 : PlanDisk) (none : d0.used ≡ 0) (kept : (k : ℕ) → IsLost d0 k → ⊥) where
+  -- leaves the image as it was,
+  pub starts : (c : Image) → MayLeave (content_of d0) (unsynced_in d0) c → c ≡ row d0.image.now
+  starts c may = nothing_done d0.calls.now d0.rows.now (pages_of d0) (row d0.image.now) d0.used c none
+      (record { kept = λ k. ⊎_elim (⊎_elim (λ u. inl u) (λ lost. absurd (kept k lost))) (λ e. inr e) (may.kept k) })
 
-  began : row image ≡ row image1
-  began = sym (same_first calls0 calls rows0 rows pages0 pages1 (row image0) (row image1) used0 used (length image0) none good0 run ∙ ap row given)
+  pub started : content_of d0 ≡ row d0.image.now
+  started = ap (λ (k : ℕ). image_after d0.calls.now d0.rows.now (pages_of d0) (row d0.image.now) k) none
 
-  pub began_pages : pages ≡ pages1
-  began_pages = sym (same_pages calls0 calls rows0 rows pages0 pages1 (row image0) (row image1) used0 used (length image0) none good0 run ∙ lent)
+  -- and goes on as itself.
+  module _ (d : PlanDisk) (Q : Image → Type 0) (no_name : (number : ℕ) (image : Image) → Q (label number image) → ⊥)
+      (run : (t : ℕ) (c : Image) → t ≤ plan_moment d0 → left_in d t c → left_in d0 t c ⊎ Q c) where
+    no_stop : (number : ℕ) (image : Image) (k : ℕ) → k ≤ d0.used
+        → MayLeave (image_after d0.calls.now d0.rows.now (pages_of d0) (row d0.image.now) k) (IsLeftUnsynced d0.calls.now k) (label number image) → ⊥
+    no_stop number image k le may = no_row number image d0.image.now
+        (nothing_done d0.calls.now d0.rows.now (pages_of d0) (row d0.image.now) k (label number image) (omega (arith, le, none)) may)
 
-  module _ (same_calls : (k : ℕ) → k < used → slice_get calls' k ≡ slice_get calls k)
-      (same_rows : (k : ℕ) (call : Call) → k < used → slice_get calls k ≡ Some call → call.kind ≡ 1 → row rows' k ≡ row rows k) where
-    pub same_end : image_after calls' rows' pages (row image) used ≡ image_after calls rows pages1 (row image1) used
-    same_end = fun_ext (λ n. alike_image calls calls' used same_calls rows rows' pages (row image) same_rows used n (omega arith))
-        ∙ ap (λ (first : Image). image_after calls rows pages first used) began ∙ ap (λ (p : ℕ → List ℕ). image_after calls rows p (row image1) used) began_pages
+    began : label d.room (row d.image.now) ≡ label d0.room (row d0.image.now)
+    began = ⊎_elim
+        (⊎_elim
+        (⊎_elim (λ named. named.1) (⊎_elim (λ named. absurd (omega (arith, named.0))) (λ had. absurd (no_stop d.room (row d.image.now) had.0 had.2 had.3))))
+        (λ may. absurd (no_row d.room (row d.image.now) d0.image.now (starts (label d.room (row d.image.now)) may))))
+        (λ is. absurd (no_name d.room (row d.image.now) is))
+        (run 0 (label d.room (row d.image.now)) (omega arith) (inl (inl (refl, refl))))
 
--- A plan that was made as a device at `image0`, and copied.
-module _ (calls0 calls calls' : List Call) (rows0 rows rows' image image0 image1 : List (List ℕ)) (pages pages0 pages1 : ℕ → List ℕ) (used0 used : ℕ)
-    (files : ℕ → Option FileInfo) (before after : ℕ → ℕ → List ℕ) (given : image0 ≡ image) (lent : pages0 ≡ pages) (none : used0 ≡ 0)
-    (stands : StandsFor (length image) files before (row image)) where
-  stands0 : StandsFor (length image0) files before (row image0)
-  stands0 = subst (λ (xs : List (List ℕ)). StandsFor (length xs) files before (row xs)) (sym given) stands
+    pub same_room : d.room ≡ d0.room
+    same_room = same_number d.room d0.room (row d.image.now) (row d0.image.now) began
 
-  pub stands_now : (c : Image) → MayLeave (image_after calls0 rows0 pages0 (row image0) used0) (IsLeftUnsynced calls0 used0) c → StandsFor (length image0) files before c
-  stands_now c may = subst (λ (i : Image). StandsFor (length image0) files before i) (sym (nothing_done calls0 rows0 pages0 (row image0) used0 c none may)) stands0
+    pub same_first : row d.image.now ≡ row d0.image.now
+    same_first = same_image d.room d0.room (row d.image.now) (row d0.image.now) began
 
-  module _ (run : (t : ℕ) (c : Image) → t ≤ used0 + 2 → PlanLeftSince calls rows pages1 (row image1) used t c
-      → PlanLeftSince calls0 rows0 pages0 (row image0) used0 t c ⊎ StandsForEither (length image0) files before after c)
-      (same_calls : (k : ℕ) → k < used → slice_get calls' k ≡ slice_get calls k)
-      (same_rows : (k : ℕ) (call : Call) → k < used → slice_get calls k ≡ Some call → call.kind ≡ 1 → row rows' k ≡ row rows k) where
-    pub layouts : (t : ℕ) (c : Image) → t ≤ used0 + 2 → PlanLeftSince calls rows pages1 (row image1) used t c
-        → PlanLeftSince calls0 rows0 pages0 (row image0) used0 t c ⊎ HasLayout (length image0) c
-    layouts t c le left = ⊎_elim inl (⊎_elim (λ s. inr s.layout) (λ s. inr s.layout)) (run t c le left)
+    pub same_pages : pages_of d ≡ pages_of d0
+    same_pages = ⊎_elim
+        (⊎_elim
+        (⊎_elim (λ named. absurd (omega (arith, named.0))) (⊎_elim (λ named. same_image 0 0 (pages_of d) (pages_of d0) named.1) (λ had. absurd (no_stop 0 (pages_of d) had.0 had.2 had.3))))
+        (λ may. absurd (no_row 0 (pages_of d) d0.image.now (starts (label 0 (pages_of d)) may))))
+        (λ is. absurd (no_name 0 (pages_of d) is))
+        (run 1 (label 0 (pages_of d)) (omega arith) (inl (inr (inl (refl, refl)))))
 
-    began_so : row image ≡ row image1
-    began_so = began calls0 calls calls' rows0 rows rows' image image0 image1 pages pages0 pages1 used0 used given lent none stands.layout layouts
+  -- Its room stays, whether its image is one of a store or not.
+  module _ (d : PlanDisk)
+      (layout_run : IsStore (length d0.image.now) (content_of d0) → (t : ℕ) (c : Image) → t ≤ plan_moment d0 → left_in d t c → left_in d0 t c ⊎ HasLayout (length d0.image.now) c)
+      (bad_run : IsBadLayout (length d0.image.now) (content_of d0) ⊎ IsBadJournal (length d0.image.now) (content_of d0)
+      → (t : ℕ) (c : Image) → t ≤ plan_moment d0 → left_in d t c → left_in d0 t c ⊎ MayLeave (content_of d0) (λ k. unsynced_in d0 k ⊎ Nothing k) c) where
+    as_it_was : (c : Image) → MayLeave (content_of d0) (λ k. unsynced_in d0 k ⊎ Nothing k) c → c ≡ row d0.image.now
+    as_it_was c may = starts c (record { kept = λ k. ⊎_elim (⊎_elim (λ u. inl u) (λ no. absurd no)) (λ e. inr e) (may.kept k) })
 
-    lent_so : pages ≡ pages1
-    lent_so = began_pages calls0 calls calls' rows0 rows rows' image image0 image1 pages pages0 pages1 used0 used given lent none stands.layout layouts
+    pub room_stays : d.room ≡ d0.room
+    room_stays = ⊎_elim (λ same. same)
+        (λ other.
+        let good : IsBadLayout (length d0.image.now) (content_of d0) ⊎ IsBadJournal (length d0.image.now) (content_of d0) → ⊥
+        = λ bad. other (same_room d (λ c. MayLeave (content_of d0) (λ k. unsynced_in d0 k ⊎ Nothing k) c)
+        (λ number image may. no_row number image d0.image.now (as_it_was (label number image) may)) (bad_run bad)) in
+        absurd (other (same_room d (HasLayout (length d0.image.now)) (λ number image is. no_layout (length d0.image.now) (label number image) is refl)
+        (layout_run (record { layout = λ bad. good (inl bad); journal = λ bad. good (inr bad) })))))
+        (cases_eq d.room d0.room)
 
-    pub stops_leave : ((c : Image) → PlanLeftSince calls rows pages1 (row image1) used (used0 + 2) c → StandsForEither (length image0) files before after c)
-        → (c : Image) → StopLeaves calls' rows' pages (row image) used c → StandsForEither (length image) files before after c
-    stops_leave each c stop =
-        let at = between calls' rows' pages (row image) used c stop in
-        let may = alike_leaves calls calls' used same_calls rows rows' pages (row image) same_rows at.0 c at.1 at.2 in
-        let may1 = subst (λ (first : Image). MayLeave (image_after calls rows pages first at.0) (IsLeftUnsynced calls at.0) c) began_so may in
-        subst (λ (xs : List (List ℕ)). StandsForEither (length xs) files before after c) given
-        (each c (inr (inr (at.0, omega (arith, none), at.1, subst (λ (p : ℕ → List ℕ). MayLeave (image_after calls rows p (row image1) at.0) (IsLeftUnsynced calls at.0) c) lent_so may1))))
+-- A plan that is listed on such an image with such pages lent, and copied.
+module _ (d : PlanDisk) (calls' : List Call) (rows' image : List (List ℕ)) (pages : ℕ → List ℕ) (first : row image ≡ row d.image.now) (lent : pages ≡ pages_of d)
+    (same_calls : (k : ℕ) → k < d.used → slice_get calls' k ≡ slice_get d.calls.now k)
+    (same_rows : (k : ℕ) (call : Call) → k < d.used → slice_get d.calls.now k ≡ Some call → call.kind ≡ 1 → row rows' k ≡ row d.rows.now k) where
+  pub same_end : image_after calls' rows' pages (row image) d.used ≡ content_of d
+  same_end = fun_ext (λ n. alike_image d.calls.now calls' d.used same_calls d.rows.now rows' pages (row image) same_rows d.used n (omega arith))
+      ∙ ap (λ (i : Image). image_after d.calls.now d.rows.now pages i d.used) first ∙ ap (λ (p : ℕ → List ℕ). image_after d.calls.now d.rows.now p (row d.image.now) d.used) lent
 
-    pub stands_then : ((c : Image) → MayLeave (image_after calls rows pages1 (row image1) used) (IsLeftUnsynced calls used) c → StandsFor (length image0) files after c)
-        → StandsFor (length image) files after (image_after calls' rows' pages (row image) used)
-    stands_then now = subst (λ (xs : List (List ℕ)). StandsFor (length xs) files after (image_after calls' rows' pages (row image) used)) given
-        (subst (λ (i : Image). StandsFor (length image0) files after i) (sym (same_end calls0 calls calls' rows0 rows rows' image image0 image1 pages pages0 pages1 used0 used given lent none stands.layout layouts same_calls same_rows))
-        (now (image_after calls rows pages1 (row image1) used) (record { kept = λ n. inr refl })))
+  -- What a stop within its calls leaves it may leave as a device.
+  pub stop_leaves : (t : ℕ) → t ≡ 2 → (c : Image) → StopLeaves calls' rows' pages (row image) d.used c → left_in d t c
+  stop_leaves t two c stop =
+      let at = between calls' rows' pages (row image) d.used c stop in
+      let may = alike_leaves d.calls.now calls' d.used same_calls d.rows.now rows' pages (row image) same_rows at.0 c at.1 at.2 in
+      let from_first = subst (λ (i : Image). MayLeave (image_after d.calls.now d.rows.now pages i at.0) (IsLeftUnsynced d.calls.now at.0) c) first may in
+      inl (inr (inr (at.0, omega (arith, two), at.1, subst (λ (p : ℕ → List ℕ). MayLeave (image_after d.calls.now d.rows.now p (row d.image.now) at.0) (IsLeftUnsynced d.calls.now at.0) c) lent from_first)))
 
 -- before the first call a plan says of the image what the caller's says
-pub as_given : (calls : List Call) (rows image image0 : List (List ℕ)) (pages : ℕ → List ℕ) (used0 : ℕ) (P : ℕ → Image → Type 0) → image0 ≡ image → used0 ≡ 0
-    → P (length image0) (image_after calls rows pages (row image0) used0) → P (length image) (row image)
-as_given calls rows image image0 pages used0 P given none was = subst (λ (xs : List (List ℕ)). P (length xs) (row xs)) given
-    (subst (λ (i : Image). P (length image0) i) (fun_ext (λ n. ap (λ (k : ℕ). image_after calls rows pages (row image0) k n) none)) was)
+pub as_given : (d0 : PlanDisk) (image : List (List ℕ)) (P : ℕ → Image → Type 0) → d0.image.now ≡ image → d0.used ≡ 0
+    → P (length d0.image.now) (content_of d0) → P (length image) (row image)
+as_given d0 image P given none was = subst (λ (xs : List (List ℕ)). P (length xs) (row xs)) given
+    (subst (λ (i : Image). P (length d0.image.now) i) (ap (λ (k : ℕ). image_after d0.calls.now d0.rows.now (pages_of d0) (row d0.image.now) k) none) was)
+
+pub to_given : (d0 : PlanDisk) (image : List (List ℕ)) (P : ℕ → Image → Type 0) → d0.image.now ≡ image
+    → P (length image) (row image) → P (length d0.image.now) (row d0.image.now)
+to_given d0 image P given was = subst (λ (xs : List (List ℕ)). P (length xs) (row xs)) (sym given) was
 
 -- a stop within some of the calls is one within more of them
 pub fewer : {calls : List Call} {rows : List (List ℕ)} {pages : ℕ → List ℕ} {first : Image} {m n : ℕ} {c : Image} → m ≤ n → StopLeaves calls rows pages first m c → StopLeaves calls rows pages first n c
@@ -169,12 +184,3 @@ fewer le (Within k j within writes may) = Within k j (omega (arith, within, le))
 -- where nothing is to be done, the image stays
 pub nothing_listed : (calls : List Call) (rows : List (List ℕ)) (pages : ℕ → List ℕ) (first : Image) (c : Image) → StopLeaves calls rows pages first 0 c → c ≡ first
 nothing_listed calls rows pages first c stop = let at = between calls rows pages first 0 c stop in nothing_done calls rows pages first at.0 c (omega (arith, at.1)) at.2
-
--- a page of bytes is one of the list
-pub is_lent : (list : List PageBytes) (i : ℕ) → length (lent_page list i) ≡ 4096 → i < length list
-is_lent list i long = ⊎_elim (λ inside. inside)
-    (λ past. absurd (let blank : length (lent_page list i) ≡ 0 = ap (λ (o : Option PageBytes). length (bytes_or_none o)) (slice_get_past list i past) in omega (arith, long, blank)))
-    (cases_lt i (length list))
-
-pub lent_here : (list : List PageBytes) (i : ℕ) (d : PageBytes) → i < length list → lent_page list i ≡ (get_or list i d).at.now
-lent_here list i d inside = ap bytes_or_none (slice_get-get_or list i d inside)

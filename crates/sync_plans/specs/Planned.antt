@@ -1,18 +1,18 @@
 -- Plans that a caller is given.
-use Rattle.std.specs.Prelude.{ℕ, ◌≤◌, List, Option, length}
+use Rattle.std.specs.Prelude.{ℕ, ◌≤◌, ◌≡◌, false, List, Option, length}
 use Rattle.vm_types.specs.declared.file.FileInfo.{FileInfo}
 use Rattle.vm_types.specs.declared.file.FilePage.{FilePage}
 use Rattle.disk_model.specs.Stop.{Image}
-use Rattle.file_store.specs.Commit.{Changes, StandsForEither}
-use Rattle.file_store.specs.Standing.{StandsFor}
+use Rattle.file_store.specs.Commit.{Changes}
+use Rattle.stores.specs.Images.{is_pool, IsClosed, StandsFor, StandsForEither}
 use Rattle.sync_plans.specs.declared.call.Call.{Call}
 use Rattle.sync_plans.specs.Plans.{row, AreCalls, AreSources, image_after, IsLeftUnsynced, StopLeaves}
-use Rattle.sync_plans.specs.Requests.{IsStore, IsClosed, KeepsOutside, AreWritable}
+use Rattle.sync_plans.specs.Requests.{IsStore, KeepsOutside, AreWritable}
 
--- The first `used` calls, made of a device of so many sectors with these pages lent, are a plan:
-pub record IsPlan (sectors : ℕ) (pages : ℕ → List ℕ) (calls : List Call) (used : ℕ) : Type 0 where
-  -- the list has room for them,
-  pub few : used ≤ 16384
+-- The first `used` calls, made of a device of so many sectors with these pages lent, are a plan for which there is so much room:
+pub record IsPlan (sectors room : ℕ) (pages : ℕ → List ℕ) (calls : List Call) (used : ℕ) : Type 0 where
+  -- they are no more than that,
+  pub few : used ≤ room
   -- the device takes each,
   pub all : AreCalls sectors calls used
   -- each finds the bytes that it names,
@@ -21,31 +21,31 @@ pub record IsPlan (sectors : ℕ) (pages : ℕ → List ℕ) (calls : List Call)
   pub synced : (n : ℕ) → IsLeftUnsynced calls used n → ⊥
 
 -- A plan opens an image:
-pub record PlansOpening (image : List (List ℕ)) (pages : ℕ → List ℕ) (calls : List Call) (rows : List (List ℕ)) (used : ℕ) : Type 0 where
+pub record PlansOpening (image : List (List ℕ)) (room : ℕ) (pages : ℕ → List ℕ) (calls : List Call) (rows : List (List ℕ)) (used : ℕ) : Type 0 where
   -- the image is one of a store,
   pub store : IsStore (length image) (row image)
   -- its device can make the calls,
-  pub plan : IsPlan (length image) pages calls used
+  pub plan : IsPlan (length image) room pages calls used
   pub open plan use *
   -- every stop within them leaves the files as they stand,
   pub any_moment : (files : ℕ → Option FileInfo) (before : ℕ → ℕ → List ℕ) → StandsFor (length image) files before (row image)
       → (left : Image) → StopLeaves calls rows pages (row image) used left → StandsFor (length image) files before left
-  -- and all of them together leave nothing in a journal alone, and mark, directory and what lies after the last home page as they were.
-  pub closed : IsClosed (image_after calls rows pages (row image) used)
+  -- and all of them together leave nothing in a journal alone where the image has no pool, and what lies outside of gate, journals, pool and homes as it was.
+  pub closed : is_pool (row image) ≡ false → IsClosed (length image) (image_after calls rows pages (row image) used)
   pub outside : KeepsOutside (length image) (row image) (image_after calls rows pages (row image) used)
 
 -- A plan makes pages durable all at once:
-pub record PlansCommit (image : List (List ℕ)) (list : List FilePage) (pages : ℕ → List ℕ) (calls : List Call) (rows : List (List ℕ)) (used : ℕ) : Type 0 where
+pub record PlansCommit (image : List (List ℕ)) (room : ℕ) (list : List FilePage) (pages : ℕ → List ℕ) (calls : List Call) (rows : List (List ℕ)) (used : ℕ) : Type 0 where
   -- the image is one of a store that may be brought these pages,
   pub store : IsStore (length image) (row image)
-  pub writable : AreWritable (row image) list
+  pub writable : AreWritable (length image) (row image) list
   -- its device can make the calls,
-  pub plan : IsPlan (length image) pages calls used
+  pub plan : IsPlan (length image) room pages calls used
   pub open plan use *
   -- every stop within them leaves the files before or after,
   pub any_moment : (files : ℕ → Option FileInfo) (before after : ℕ → ℕ → List ℕ) → StandsFor (length image) files before (row image) → Changes files list pages before after
       → (left : Image) → StopLeaves calls rows pages (row image) used left → StandsForEither (length image) files before after left
-  -- and all of them together leave the files after, and mark, directory and what lies after the last home page as they were.
+  -- and all of them together leave the files after, and what lies outside of gate, journals, pool and homes as it was.
   pub ok : (files : ℕ → Option FileInfo) (before after : ℕ → ℕ → List ℕ) → StandsFor (length image) files before (row image) → Changes files list pages before after
       → StandsFor (length image) files after (image_after calls rows pages (row image) used)
   pub outside : KeepsOutside (length image) (row image) (image_after calls rows pages (row image) used)

@@ -1,7 +1,7 @@
 -- A plan: calls to be made of a device, one after the other. What the device holds after some of them, and what a stop may
 -- leave of it. Call k of kind 1 writes row k to its sector, one of kind 2 syncs. One of kind 3 writes page `from` of those that
 -- are lent to the eight sectors from its own on, and one of kind 4 what the eight sectors from `from` on of the image hold.
-use Rattle.std.specs.Prelude.{ℕ, zero, suc, ◌+◌, ◌-◌, ◌<◌, ◌≤◌, ◌≡◌, ◌⊎◌, Bool, false, leb, ltb, ◌&&◌, ◌||◌, ◌==◌, if◌then◌else◌, IsTrue, List, [], Option, Some, None, length, slice_get, slice_index_or}
+use Rattle.std.specs.Prelude.{ℕ, zero, suc, min, ◌+◌, ◌-◌, ◌<◌, ◌≤◌, ◌≡◌, ◌⊎◌, Bool, false, leb, ltb, ◌&&◌, ◌||◌, ◌==◌, if◌then◌else◌, IsTrue, List, [], Option, Some, None, length, slice_get, slice_index_or}
 use Rattle.disk_model.specs.Sectors.{part_of}
 use Rattle.disk_model.specs.Stop.{Image, MayLeave}
 use Rattle.sync_plans.specs.declared.call.Call.{Call}
@@ -30,6 +30,10 @@ written_bytes rows pages first k (Some call) n = if call.kind == 1 then row rows
 abbrev pub is_sync_call : Option Call → Bool
 is_sync_call None = false
 is_sync_call (Some call) = call.kind == 2
+
+-- how many calls a plan may have that is made in the first two of these lists and given in the others: as many as the shortest has places
+abbrev pub room_of : List Call → List (List ℕ) → List Call → List (List ℕ) → ℕ
+room_of made made_rows calls rows = min (min (length made) (length made_rows)) (min (length calls) (length rows))
 
 -- a write of one of so many sectors or of a page of them, or a sync
 pub record IsCall (sectors : ℕ) (call : Call) : Type 0 where

@@ -1,10 +1,5 @@
 //! The calls of a plan.
 
-/// How many calls a plan has room for. A commit of 1,023 pages after one of 1,023 others would take 16,382 if it wrote them all sector by
-/// sector. It takes 2,508 at most, of two journals in turn 2,505, since it names where all its pages lie but those with bytes past their
-/// files' ends, which are 64 at most.
-pub const ROOM: usize = 16384;
-
 /// A call to be made of a device. Call `k` of a plan, of this kind:
 ///
 /// - 1 writes row `k` of the plan to `sector`.

@@ -11,7 +11,7 @@ mod requests;
 mod scratch;
 mod updates;
 
-pub use call::{Call, ROOM};
+pub use call::Call;
 pub use lent_pages::PageBytes;
 pub use planning::{file_facts, plan_commit, plan_open, read_page};
 pub use requests::Refusal;

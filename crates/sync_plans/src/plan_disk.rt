@@ -1,11 +1,12 @@
 //! A device that lists its writes and syncs, for the caller to carry out.
-ghost use Rattle.std.specs.Prelude.{◌≡◌, ◌≢◌, ◌<◌, ◌≤◌, ◌+◌, ◌^◌, ◌⊎◌, ℕ, length, true, false, Some, IfSome, IsTrue, slice_get};
+ghost use Rattle.std.specs.Prelude.{◌≡◌, ◌≢◌, ◌<◌, ◌≤◌, ◌+◌, ◌^◌, ◌⊎◌, ℕ, length, min, true, false, Some, IfSome, IsTrue, slice_get};
+ghost use Rattle.disk_model.specs.Asked.{times_named};
 ghost use Rattle.disk_model.specs.Sectors.{part_of};
 ghost use Rattle.sync_plans.specs.Pages.{lent_page};
 ghost use Rattle.sync_plans.specs.Plans.{row, writes_to, written_bytes, is_written, AreCalls, AreSources};
 ghost use Rattle.sync_plans.specs.Device.{NamesPage};
 
-use crate::call::{Call, ROOM};
+use crate::call::Call;
 use crate::lent_pages::PageBytes;
 use crate::scratch::Scratch;
 use disk_model::{Asked, Count, DiskFault, SECTOR_BYTES, SectorDisk, parts};
@@ -26,27 +27,33 @@ pub(crate) struct PlanDisk<'a> {
     pub lent: &'a [PageBytes<'a>],
     pub calls: &'a mut [Call],
     pub rows: &'a mut [[u8; 512]],
-    /// How many calls are listed.
+    /// How many calls may be listed.
+    pub room: usize,
+    /// How many are.
     pub used: usize,
     /// Sectors that no listed call writes: at first all, and then, where a call writes among them, those on the side of the page
     /// that was read last. A commit copies pages home out of one journal while it fills the other, or before it does.
     pub untouched: Span,
-    /// The first sector of the page that was read last.
+    /// The first sector of the page that was read last, and whether no page was written since.
     read: u64,
-    /// The lent page that is looked for next, and the sector behind the page that was written last.
+    is_fresh: bool,
+    /// The lent page that is looked for next, and the sector behind the page that was copied last.
     next: usize,
     after: u64,
     /// A call found no room.
     pub full: bool,
     pub failures: Count,
     asked: Asked,
-    ghost long: { length calls.now ≡ 16384 },
-    ghost rows_long: { length rows.now ≡ 16384 },
-    ghost within: { used ≤ 16384 },
+    /// Which sectors writes named for which there was no room.
+    lost: Asked,
+    ghost long: { room ≤ length calls.now },
+    ghost rows_long: { room ≤ length rows.now },
+    ghost within: { used ≤ room },
     ghost all: { AreCalls (length image.now) calls.now used },
     ghost sources: { AreSources (lent_page lent.now) calls.now used },
-    ghost filled: { full ≡ true → used ≡ 16384 },
+    ghost filled: { full ≡ true → used ≡ room },
     ghost calm: { full ≡ false → failures.number ≡ 0 },
+    ghost kept: { full ≡ false → (n : ℕ) → times_named lost n ≡ 0 },
     ghost bounded: { untouched.high < 2 ^ 64 },
     ghost between: { (n : ℕ) → untouched.low ≤ n → n < untouched.high → is_written calls.now 0 used n ≡ false },
 }
@@ -111,10 +118,22 @@ fn place(call: Call, n: u64) -> usize
     (n - call.sector) as usize
 }
 
-/// The lent page that is looked for at sector `n`: the next one where it lies behind the page that was written last, or else the
-/// first, since a body is written page after page.
-fn next_at(next: usize, after: u64, n: u64) -> usize {
-    if n == after { next } else { 0 }
+/// The lent page that is looked for after such a call: a page that is copied is none of them.
+fn next_after(next: usize, call: Call) -> usize {
+    if call.kind == COPY {
+        next
+    } else {
+        next.saturating_add(1)
+    }
+}
+
+/// The sector behind the page that was copied last, with this call too.
+fn copied_end(after: u64, call: Call) -> u64 {
+    if call.kind == COPY {
+        call.sector.saturating_add(8)
+    } else {
+        after
+    }
 }
 
 /// Keeps the row of a call that has one.
@@ -134,28 +153,35 @@ impl<'a> PlanDisk<'a> {
         image: &'a [[u8; 512]],
         lent: &'a [PageBytes<'a>],
         scratch: Scratch<'a>,
+        most: usize,
     ) -> PlanDisk<'a>
         ensures image { result.image.now ≡ image.now }
         ensures lent { result.lent.now ≡ lent.now }
+        ensures room { result.room ≡ min (min (length scratch.entry.calls.now) (length scratch.entry.rows.now)) most }
         ensures used { result.used ≡ 0 }
+        ensures lost { (k : ℕ) → times_named result.lost k ≡ 0 }
     {
         let Scratch { calls, rows } = scratch;
+        let room = calls.len().min(rows.len()).min(most);
         PlanDisk {
             image,
             lent,
             calls,
             rows,
+            room,
             used: 0,
             untouched: Span {
                 low: 0,
                 high: u64::MAX,
             },
             read: u64::MAX,
+            is_fresh: false,
             next: 0,
             after: 0,
             full: false,
             failures: Count::new(),
             asked: Asked::new(),
+            lost: Asked::new(),
         }
     }
 
@@ -164,7 +190,7 @@ impl<'a> PlanDisk<'a> {
         requires { IsListable self.old call }
         ensures { AddsCall self.old self.new call bytes.now result }
     {
-        if self.full || self.used >= ROOM {
+        if self.full || self.used >= self.room {
             self.full = true;
             self.failures.raise();
             return Err(DiskFault);
@@ -182,14 +208,15 @@ impl<'a> PlanDisk<'a> {
         requires { n < length self.old.image.now }
         ensures { PutsSector self.old self.new n from.now result }
     {
-        self.list(
-            Call {
-                kind: WRITE,
-                sector: n,
-                from: 0,
-            },
-            from,
-        )
+        let call = Call {
+            kind: WRITE,
+            sector: n,
+            from: 0,
+        };
+        match self.list(call, from) {
+            Ok(()) => Ok(()),
+            Err(fault) => Err(fault),
+        }
     }
 
     // A write of a page by a call that names where its bytes lie.
@@ -198,8 +225,12 @@ impl<'a> PlanDisk<'a> {
         requires names { NamesPage (pages_of self.old) (row self.old.image.now) call.sector from.now call }
         ensures { PutsPage self.old self.new call.sector from.now result }
     {
-        self.next = self.next.saturating_add(1);
-        self.list(call, &parts(from)[0])
+        self.next = next_after(self.next, call);
+        self.after = copied_end(self.after, call);
+        match self.list(call, &parts(from)[0]) {
+            Ok(()) => Ok(()),
+            Err(fault) => Err(fault),
+        }
     }
 
     // A write of a page sector by sector, each with a row.
@@ -211,8 +242,25 @@ impl<'a> PlanDisk<'a> {
         for (i, sector) in parts(from).iter().enumerate() {
             self.put(n + i as u64, sector)?;
         }
-        self.next = self.next.saturating_add(1);
         Ok(())
+    }
+
+    // A write of a page by a call, or by one for each sector.
+    fn put_whole(&mut self, n: u64, from: &[u8; 4096]) -> Result<(), DiskFault>
+        requires room { n + 8 ≤ length self.old.image.now }
+        requires fits { n < 2 ^ 60 }
+        ensures { PutsPage self.old self.new n from.now result }
+    {
+        self.next = self.next_at(n);
+        let named = self.named(n, from);
+        self.is_fresh = false;
+        match named {
+            Some(call) => self.put_page(call, from),
+            None => {
+                self.next = self.next.saturating_add(1);
+                self.put_sectors(n, from)
+            }
+        }
     }
 
     /// The untouched sectors, once this call is listed too.
@@ -228,6 +276,17 @@ impl<'a> PlanDisk<'a> {
         self.untouched.without(call.sector, end, self.read)
     }
 
+    /// Which of the lent pages come before the one that is looked for at sector `n`: as many as pages were written, but those that were copied. They are
+    /// copied each behind its read, from one that lies before. Where one that was copied had the bytes of the first of the caller's by chance, the next one
+    /// of these lies directly behind it, and the first counts too.
+    fn next_at(&self, n: u64) -> usize {
+        if n == self.after && !self.is_fresh {
+            self.next.saturating_add(1)
+        } else {
+            self.next
+        }
+    }
+
     /// A call that writes this page to the sectors from `n` on, and names where its bytes lie. What was read last is looked
     /// at first: a page that is copied comes from the image, where no store of the caller changes it.
     fn named(&self, n: u64, page: &[u8; 4096]) -> Option<Call>
@@ -236,7 +295,7 @@ impl<'a> PlanDisk<'a> {
         ensures sector { IfSome result (λ call. call.sector ≡ n) }
         ensures sources { IfSome result (λ call. NamesPage (pages_of self.now) (row self.now.image.now) n page.now call) }
     {
-        if self.holds(self.read, page) {
+        if self.is_fresh && self.read < n && self.holds(self.read, page) {
             return Some(Call {
                 kind: COPY,
                 sector: n,
@@ -316,7 +375,8 @@ impl<'a> PlanDisk<'a> {
     }
 
     /// Copies the listed calls to the front of these lists, with the rows that they write.
-    pub(crate) fn copy_to(&self, calls: &mut [Call; ROOM], rows: &mut [[u8; 512]; ROOM])
+    pub(crate) fn copy_to(&self, calls: &mut [Call], rows: &mut [[u8; 512]])
+        requires room { (self.now.used ≤ length calls.old) × (self.now.used ≤ length rows.old) }
         ensures calls { (k : ℕ) → k < self.now.used → slice_get calls.new k ≡ slice_get self.now.calls.now k }
         ensures rows { (k : ℕ) (call : Call) → k < self.now.used → slice_get self.now.calls.now k ≡ Some call → call.kind ≡ 1 → row rows.new k ≡ row self.now.rows.now k }
         ensures all { AreCalls (length self.now.image.now) calls.new self.now.used }
@@ -332,8 +392,9 @@ impl<'a> PlanDisk<'a> {
 
 impl SectorDisk for PlanDisk<'_> {
     ghost use Rattle.disk_model.specs.Asked.{times_named};
-    ghost use Rattle.sync_plans.specs.PlanDisk.{pages_of, content_of, unsynced_in, plan_moment, left_in};
-    ghost use Rattle.sync_plans.specs.Device.{counts_present, only_present};
+    ghost use Rattle.sync_plans.specs.PlanDisk.{pages_of, content_of, IsLost, unsynced_in, plan_moment, left_in};
+    ghost use Rattle.sync_plans.specs.Device.{only_lost};
+    ghost use Rattle.std.proofs.Common.{inr};
 
     ghost sector_count = { λ d. length d.image.now };
 
@@ -349,11 +410,11 @@ impl SectorDisk for PlanDisk<'_> {
 
     ghost asked = { λ d. times_named d.asked };
 
-    ghost keeps_model = { λ d. d.full ≡ false };
+    ghost keeps_model = { λ _. Unit {0} };
 
-    ghost counts_now = { λ d t c kept le now. counts_present d.calls.now d.rows.now (pages_of d) (row d.image.now) d.used t c le now };
+    ghost counts_now = { λ d t c kept le now. inr now };
 
-    ghost only_now = { λ d c kept left. only_present d.calls.now d.rows.now (pages_of d) (row d.image.now) d.used c left };
+    ghost only_now = { λ d c kept left. only_lost d.calls.now d.rows.now (pages_of d) (row d.image.now) d.room d.used (IsLost d) c left };
 
     fn sectors(&self) -> u64 {
         self.image.len() as u64
@@ -367,12 +428,19 @@ impl SectorDisk for PlanDisk<'_> {
 
     fn write(&mut self, n: u64, from: &[u8; SECTOR_BYTES]) -> Result<(), DiskFault> {
         self.asked.sector(n);
-        self.put(n, from)
+        match self.put(n, from) {
+            Ok(()) => Ok(()),
+            Err(fault) => {
+                self.lost.sector(n);
+                Err(fault)
+            }
+        }
     }
 
     fn read_page(&mut self, n: u64, to: &mut [u8; 4096]) -> Result<(), DiskFault> {
         self.asked.page(n);
         self.read = n;
+        self.is_fresh = true;
         for i in 0..8 {
             let sector = self.held(n + i as u64);
             let at = 512 * i;
@@ -383,26 +451,28 @@ impl SectorDisk for PlanDisk<'_> {
 
     fn write_page(&mut self, n: u64, from: &[u8; 4096]) -> Result<(), DiskFault> {
         self.asked.page(n);
-        self.next = next_at(self.next, self.after, n);
-        self.after = n.saturating_add(8);
-        match self.named(n, from) {
-            Some(call) => self.put_page(call, from),
-            None => self.put_sectors(n, from),
+        match self.put_whole(n, from) {
+            Ok(()) => Ok(()),
+            Err(fault) => {
+                self.lost.page(n);
+                Err(fault)
+            }
         }
     }
 
     /// The first call of a plan is no sync: nothing is unsynced before it.
     fn sync(&mut self) -> Result<(), DiskFault> {
-        if self.used == 0 {
+        if self.used == 0 && !self.full {
             return Ok(());
         }
-        self.list(
-            Call {
-                kind: SYNC,
-                sector: 0,
-                from: 0,
-            },
-            &[0; SECTOR_BYTES],
-        )
+        let call = Call {
+            kind: SYNC,
+            sector: 0,
+            from: 0,
+        };
+        match self.list(call, &[0; SECTOR_BYTES]) {
+            Ok(()) => Ok(()),
+            Err(fault) => Err(fault),
+        }
     }
 }

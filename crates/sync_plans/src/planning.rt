@@ -1,36 +1,52 @@
 //! Plans of device calls.
 ghost use Rattle.std.specs.Prelude.{◌≡◌, ℕ, List, [], Option, IfOk, IfErr, OnOk, length};
 ghost use Rattle.vm_types.specs.declared.file.FileInfo.{FileInfo};
-ghost use Rattle.file_store.specs.Commit.{ArePages};
-ghost use Rattle.file_store.specs.Standing.{IsPageOf, StandsFor, file_info};
+ghost use Rattle.file_store.specs.Standing.{IsPageOf};
+ghost use Rattle.stores.specs.Commit.{ArePages};
+ghost use Rattle.stores.specs.Images.{StandsFor, file_info, free_pages};
 ghost use Rattle.sync_plans.specs.Pages.{lent_page};
 ghost use Rattle.sync_plans.specs.Planned.{PlansOpening, PlansCommit};
-ghost use Rattle.sync_plans.specs.Plans.{row, AreCalls};
+ghost use Rattle.sync_plans.specs.Plans.{row, room_of, AreCalls};
 ghost use Rattle.sync_plans.specs.Requests.{IsStore, AreReadOnly, RefusesImage};
 
-use crate::call::{Call, ROOM};
+use crate::call::Call;
 use crate::plan_disk::PlanDisk;
 use crate::requests::{Refusal, commit, facts, open, read};
 use crate::scratch::Scratch;
 use crate::updates::PageUpdates;
+use std::alloc::Global;
 use vm_types::{FileInfo, FilePage};
 
-/// Plans that pages become durable all at once. `Device` says that the plan has no room.
+/// Plans that pages become durable all at once. There is at least one and there are no more than the store takes: 1,023 of layouts 2 and 3, of layout 4
+/// as many as it has free slots.
+///
+/// Pages best come in rising order, by file and then by page. Then the plan takes a time that grows as it does, and of layout 4 a call names each page where
+/// it is lent, but one with bytes past its file's end. In another order each page is looked for among those before it, and of layout 4 one that does not stand at its
+/// place in the order of the homes is written by eight calls, with a row each.
+///
+/// # Errors
+///
+/// `Device` says that the plan has more calls than the shortest of the four lists has places; as many of them are listed then. `BadLayout` and `BadJournal`
+/// come only where the image is so, `BadPages` and `ReadOnly` only for pages that are so, and `Memory`, where there was too little, only of a store with a
+/// pool.
 pub fn plan_commit(
+    alloc: Global,
     image: &[[u8; 512]],
     scratch: Scratch<'_>,
-    calls: &mut [Call; ROOM],
-    rows: &mut [[u8; 512]; ROOM],
+    calls: &mut [Call],
+    rows: &mut [[u8; 512]],
     updates: PageUpdates<'_>,
 ) -> Result<usize, Refusal>
     requires bytes { length updates.bytes.now ≡ length updates.pages.now }
-    ensures commits { IfOk result (λ used. PlansCommit image.now updates.entry.pages.now (lent_page updates.entry.bytes.now) calls.new rows.new used) }
-    ensures no_room { IfErr result (λ refusal. refusal ≡ Refusal.Device → AreCalls (length image.now) calls.new 16384) }
-    ensures refused { IfErr result (RefusesImage (length image.now) (row image.now) (ArePages (file_info (row image.now)) updates.entry.pages.now → ⊥) (AreReadOnly (row image.now) updates.entry.pages.now)) }
+    ensures commits { IfOk result (λ used. PlansCommit image.now (room_of scratch.entry.calls.now scratch.entry.rows.now calls.old rows.old) updates.entry.pages.now (lent_page updates.entry.bytes.now) calls.new rows.new used) }
+    ensures no_room { IfErr result (λ refusal. refusal ≡ Refusal.Device → AreCalls (length image.now) calls.new (room_of scratch.entry.calls.now scratch.entry.rows.now calls.old rows.old)) }
+    ensures refused { IfErr result (RefusesImage (length image.now) (row image.now)
+        (ArePages (file_info (length image.now) (row image.now)) 1 (free_pages (length image.now) (row image.now)) updates.entry.pages.now → ⊥)
+        (AreReadOnly (length image.now) (row image.now) updates.entry.pages.now)) }
 {
     let PageUpdates { pages, bytes } = updates;
-    let disk = PlanDisk::new(image, bytes, scratch);
-    let (disk, outcome) = commit(disk, pages, bytes);
+    let disk = PlanDisk::new(image, bytes, scratch, calls.len().min(rows.len()));
+    let (disk, outcome) = commit(alloc, disk, pages, bytes);
     disk.copy_to(calls, rows);
     if disk.full {
         return Err(Refusal::Device);
@@ -41,19 +57,25 @@ pub fn plan_commit(
     }
 }
 
-/// Plans that what a stop has left in the journal is carried out. `Device` says that the plan has no room.
+/// Plans that what a stop has left is carried out: what stands in an open journal of layout 2 or 3, or the map of a pool, which is written anew in the place
+/// of the other one.
+///
+/// # Errors
+///
+/// Those of `plan_commit`, but `BadPages` and `ReadOnly`.
 pub fn plan_open(
+    alloc: Global,
     image: &[[u8; 512]],
     scratch: Scratch<'_>,
-    calls: &mut [Call; ROOM],
-    rows: &mut [[u8; 512]; ROOM],
+    calls: &mut [Call],
+    rows: &mut [[u8; 512]],
 ) -> Result<usize, Refusal>
-    ensures opens { IfOk result (λ used. PlansOpening image.now (lent_page []) calls.new rows.new used) }
-    ensures no_room { IfErr result (λ refusal. refusal ≡ Refusal.Device → AreCalls (length image.now) calls.new 16384) }
+    ensures opens { IfOk result (λ used. PlansOpening image.now (room_of scratch.entry.calls.now scratch.entry.rows.now calls.old rows.old) (lent_page []) calls.new rows.new used) }
+    ensures no_room { IfErr result (λ refusal. refusal ≡ Refusal.Device → AreCalls (length image.now) calls.new (room_of scratch.entry.calls.now scratch.entry.rows.now calls.old rows.old)) }
     ensures refused { IfErr result (RefusesImage (length image.now) (row image.now) ⊥ ⊥) }
 {
-    let disk = PlanDisk::new(image, &[], scratch);
-    let (disk, outcome) = open(disk);
+    let disk = PlanDisk::new(image, &[], scratch, calls.len().min(rows.len()));
+    let (disk, outcome) = open(alloc, disk);
     disk.copy_to(calls, rows);
     if disk.full {
         return Err(Refusal::Device);
@@ -64,8 +86,13 @@ pub fn plan_open(
     }
 }
 
-/// Reads a page as it is once the image is opened. Nothing is to be carried out. `Device` says that there is no room to work in.
+/// Reads a page as it is once the image is opened. Nothing is to be carried out.
+///
+/// # Errors
+///
+/// Those of `plan_open`, where `Device` says that there is too little room to work in, and `BadPages` where the page doesn't begin inside its file.
 pub fn read_page(
+    alloc: Global,
     image: &[[u8; 512]],
     scratch: Scratch<'_>,
     page: FilePage,
@@ -74,29 +101,34 @@ pub fn read_page(
     ensures page { (files : ℕ → Option FileInfo) (pages : ℕ → ℕ → List ℕ) → StandsFor (length image.now) files pages (row image.now)
         → IsPageOf files page.file page.page → OnOk result (to.new ≡ pages page.file page.page) }
     ensures store { OnOk result (IsStore (length image.now) (row image.now)) }
-    ensures inside { OnOk result (IsPageOf (file_info (row image.now)) page.file page.page) }
-    ensures refused { IfErr result (RefusesImage (length image.now) (row image.now) (IsPageOf (file_info (row image.now)) page.file page.page → ⊥) ⊥) }
+    ensures inside { OnOk result (IsPageOf (file_info (length image.now) (row image.now)) page.file page.page) }
+    ensures refused { IfErr result (RefusesImage (length image.now) (row image.now) (IsPageOf (file_info (length image.now) (row image.now)) page.file page.page → ⊥) ⊥) }
 {
-    let disk = PlanDisk::new(image, &[], scratch);
-    let (disk, outcome) = read(disk, page, to);
+    let disk = PlanDisk::new(image, &[], scratch, usize::MAX);
+    let (disk, outcome) = read(alloc, disk, page, to);
     if disk.full {
         return Err(Refusal::Device);
     }
     outcome
 }
 
-/// The facts of a file, where the image has it. Nothing is to be carried out. `Device` says that there is no room to work in.
+/// The facts of a file, where the image has it. Nothing is to be carried out.
+///
+/// # Errors
+///
+/// Those of `plan_open`, where `Device` says that there is too little room to work in.
 pub fn file_facts(
+    alloc: Global,
     image: &[[u8; 512]],
     scratch: Scratch<'_>,
     file: u8,
 ) -> Result<Option<FileInfo>, Refusal>
-    ensures facts { IfOk result (λ info. info ≡ file_info (row image.now) file) }
+    ensures facts { IfOk result (λ info. info ≡ file_info (length image.now) (row image.now) file) }
     ensures store { OnOk result (IsStore (length image.now) (row image.now)) }
     ensures refused { IfErr result (RefusesImage (length image.now) (row image.now) ⊥ ⊥) }
 {
-    let disk = PlanDisk::new(image, &[], scratch);
-    let (disk, outcome) = facts(disk, file);
+    let disk = PlanDisk::new(image, &[], scratch, usize::MAX);
+    let (disk, outcome) = facts(alloc, disk, file);
     if disk.full {
         return Err(Refusal::Device);
     }

@@ -2,15 +2,17 @@
 ghost use Rattle.std.specs.Prelude.{◌≡◌, ℕ, List, Option, OnOk, IfOk, IfErr, length};
 ghost use Rattle.vm_types.specs.declared.file.FileInfo.{FileInfo};
 ghost use Rattle.disk_model.specs.Moments.{LeavesOnly, LeavesNow};
-ghost use Rattle.file_store.specs.Commit.{ArePages, StandsForEither};
-ghost use Rattle.file_store.specs.Standing.{IsPageOf, StandsFor, file_info};
+ghost use Rattle.file_store.specs.Standing.{IsPageOf};
+ghost use Rattle.stores.specs.Commit.{ArePages};
+ghost use Rattle.stores.specs.Images.{StandsFor, StandsForEither, file_info, free_pages};
 ghost use Rattle.sync_plans.specs.Pages.{lent_page};
-ghost use Rattle.sync_plans.specs.Requests.{IsStore, AreReadOnly, RefusesOn, OpensStore, CommitsStore};
+ghost use Rattle.sync_plans.specs.Requests.{IsStore, AreReadOnly, RefusesOn, StaysStore, OpensStore, CommitsStore};
 
 use crate::lent_pages::{LentPages, PageBytes};
 use batches::{BadBatch, check_page, check_pages};
 use disk_model::SectorDisk;
-use file_store::{FileStore, OpenFault};
+use std::alloc::Global;
+use stores::{OpenFault, Store};
 use vm_types::{FileInfo, FilePage};
 
 /// Why a request was not carried out.
@@ -21,12 +23,15 @@ pub enum Refusal {
     BadJournal,
     BadPages,
     ReadOnly,
+    /// There was too little memory for what a store with a pool keeps there while it is open.
+    Memory,
 }
 
 fn unopened(fault: OpenFault) -> Refusal
     ensures device { result ≡ Refusal.Device → fault ≡ OpenFault.Device }
     ensures layout { result ≡ Refusal.BadLayout → fault ≡ OpenFault.BadLayout }
     ensures journal { result ≡ Refusal.BadJournal → fault ≡ OpenFault.BadJournal }
+    ensures memory { result ≡ Refusal.Memory → fault ≡ OpenFault.Memory }
     ensures pages { result ≡ Refusal.BadPages → ⊥ }
     ensures read_only { result ≡ Refusal.ReadOnly → ⊥ }
 {
@@ -34,6 +39,7 @@ fn unopened(fault: OpenFault) -> Refusal
         OpenFault::Device => Refusal::Device,
         OpenFault::BadLayout => Refusal::BadLayout,
         OpenFault::BadJournal => Refusal::BadJournal,
+        OpenFault::Memory => Refusal::Memory,
     }
 }
 
@@ -43,6 +49,7 @@ fn untaken(fault: BadBatch) -> Refusal
     ensures device { result ≡ Refusal.Device → ⊥ }
     ensures layout { result ≡ Refusal.BadLayout → ⊥ }
     ensures journal { result ≡ Refusal.BadJournal → ⊥ }
+    ensures memory { result ≡ Refusal.Memory → ⊥ }
 {
     match fault {
         BadBatch::BadPages => Refusal::BadPages,
@@ -51,9 +58,9 @@ fn untaken(fault: BadBatch) -> Refusal
 }
 
 /// Opens the store and leaves it.
-pub(crate) fn open<D: SectorDisk + Drop>(disk: D) -> (D, Result<(), Refusal>)
+pub(crate) fn open<D: SectorDisk + Drop>(alloc: Global, disk: D) -> (D, Result<(), Refusal>)
     requires { D.keeps_model disk → (k : ℕ) → D.unsynced disk k → ⊥ }
-    ensures size { D.sector_count result.0 ≡ D.sector_count disk }
+    ensures stays { StaysStore D.SectorDisk disk result.0 }
     // Whatever comes of it, at any moment of the call the image stands for the files that it stood for.
     ensures any_moment { D.keeps_model result.0 → (files : ℕ → Option FileInfo) (before : ℕ → ℕ → List ℕ)
         → LeavesNow D.SectorDisk disk (StandsFor (D.sector_count disk) files before)
@@ -61,7 +68,7 @@ pub(crate) fn open<D: SectorDisk + Drop>(disk: D) -> (D, Result<(), Refusal>)
     ensures opens { D.keeps_model result.0 → OnOk result.1 (OpensStore D.SectorDisk disk result.0) }
     ensures refused { IfErr result.1 (RefusesOn D.SectorDisk disk result.0 ⊥ ⊥) }
 {
-    match FileStore::open(disk) {
+    match Store::open(alloc, disk) {
         Ok(store) => (store.into_disk(), Ok(())),
         Err((fault, disk)) => (disk, Err(unopened(fault))),
     }
@@ -69,15 +76,16 @@ pub(crate) fn open<D: SectorDisk + Drop>(disk: D) -> (D, Result<(), Refusal>)
 
 /// The facts of a file, where the store has it.
 pub(crate) fn facts<D: SectorDisk + Drop>(
+    alloc: Global,
     disk: D,
     file: u8,
 ) -> (D, Result<Option<FileInfo>, Refusal>)
     requires synced { D.keeps_model disk → (k : ℕ) → D.unsynced disk k → ⊥ }
-    ensures facts { D.keeps_model result.0 → IfOk result.1 (λ info. info ≡ file_info (D.content disk) file) }
+    ensures facts { D.keeps_model result.0 → IfOk result.1 (λ info. info ≡ file_info (D.sector_count disk) (D.content disk) file) }
     ensures store { D.keeps_model result.0 → OnOk result.1 (IsStore (D.sector_count disk) (D.content disk)) }
     ensures refused { IfErr result.1 (RefusesOn D.SectorDisk disk result.0 ⊥ ⊥) }
 {
-    match FileStore::resume(disk) {
+    match Store::resume(alloc, disk) {
         Ok(store) => {
             let info = store.file(file);
             (store.into_disk(), Ok(info))
@@ -88,6 +96,7 @@ pub(crate) fn facts<D: SectorDisk + Drop>(
 
 /// Reads a page.
 pub(crate) fn read<D: SectorDisk + Drop>(
+    alloc: Global,
     disk: D,
     page: FilePage,
     to: &mut [u8; 4096],
@@ -95,11 +104,11 @@ pub(crate) fn read<D: SectorDisk + Drop>(
     requires synced { D.keeps_model disk → (k : ℕ) → D.unsynced disk k → ⊥ }
     ensures page { D.keeps_model result.0 → (files : ℕ → Option FileInfo) (pages : ℕ → ℕ → List ℕ) → LeavesNow D.SectorDisk disk (StandsFor (D.sector_count disk) files pages)
         → IsPageOf files page.file page.page → OnOk result.1 (to.new ≡ pages page.file page.page) }
-    ensures inside { D.keeps_model result.0 → OnOk result.1 (IsPageOf (file_info (D.content disk)) page.file page.page) }
+    ensures inside { D.keeps_model result.0 → OnOk result.1 (IsPageOf (file_info (D.sector_count disk) (D.content disk)) page.file page.page) }
     ensures store { D.keeps_model result.0 → OnOk result.1 (IsStore (D.sector_count disk) (D.content disk)) }
-    ensures refused { IfErr result.1 (RefusesOn D.SectorDisk disk result.0 (D.keeps_model result.0 → IsPageOf (file_info (D.content disk)) page.file page.page → ⊥) ⊥) }
+    ensures refused { IfErr result.1 (RefusesOn D.SectorDisk disk result.0 (D.keeps_model result.0 → IsPageOf (file_info (D.sector_count disk) (D.content disk)) page.file page.page → ⊥) ⊥) }
 {
-    let mut store = match FileStore::resume(disk) {
+    let mut store = match Store::resume(alloc, disk) {
         Ok(store) => store,
         Err((fault, disk)) => return (disk, Err(unopened(fault))),
     };
@@ -114,18 +123,20 @@ pub(crate) fn read<D: SectorDisk + Drop>(
 
 /// Makes pages durable all at once.
 pub(crate) fn commit<D: SectorDisk + Drop>(
+    alloc: Global,
     disk: D,
     pages: &[FilePage],
     bytes: &[PageBytes<'_>],
 ) -> (D, Result<(), Refusal>)
     requires synced { D.keeps_model disk → (k : ℕ) → D.unsynced disk k → ⊥ }
     requires bytes { length bytes.now ≡ length pages.now }
-    ensures size { D.sector_count result.0 ≡ D.sector_count disk }
+    ensures stays { StaysStore D.SectorDisk disk result.0 }
     ensures commits { D.keeps_model result.0 → OnOk result.1 (CommitsStore D.SectorDisk disk result.0 pages.now (lent_page bytes.now)) }
     ensures refused { IfErr result.1 (RefusesOn D.SectorDisk disk result.0
-        (D.keeps_model result.0 → ArePages (file_info (D.content disk)) pages.now → ⊥) (D.keeps_model result.0 → AreReadOnly (D.content disk) pages.now)) }
+        (D.keeps_model result.0 → ArePages (file_info (D.sector_count disk) (D.content disk)) 1 (free_pages (D.sector_count disk) (D.content disk)) pages.now → ⊥)
+        (D.keeps_model result.0 → AreReadOnly (D.sector_count disk) (D.content disk) pages.now)) }
 {
-    let mut store = match FileStore::resume(disk) {
+    let mut store = match Store::resume(alloc, disk) {
         Ok(store) => store,
         Err((fault, disk)) => return (disk, Err(unopened(fault))),
     };

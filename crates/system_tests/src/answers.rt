@@ -105,9 +105,9 @@ const IN_TURN: Setting = Setting {
     ..WITHOUT_SLOTS
 };
 
-/// The same over the smallest pool that a machine takes.
+/// The same over the smallest pool.
 const IN_A_POOL: Setting = Setting {
-    store: NewStore::Pool(3),
+    store: NewStore::Pool(1),
     ..WITHOUT_SLOTS
 };
 

@@ -8,7 +8,6 @@ use disk_model::{SectorDisk, SimDisk};
 use machine::{BootFault, Config};
 use runner::RunEnd;
 use std::process::Abort;
-use stores::NewStore;
 use vm_types::Mode;
 
 /// The end of a trace on a machine that has halted.
@@ -30,7 +29,7 @@ load 1 0x10000 1\nfaults\nspawn\nfork\n",
     b"pid 1\naddr 0x10000\nok\nerror 5 EIO\nhalted\nhalted\nhalted\nbad line\n",
 );
 
-const ENDINGS: [(Setting, Exchange<'static>, Ending); 12] = [
+const ENDINGS: [(Setting, Exchange<'static>, Ending); 11] = [
     (PLAIN, (b"spawn\n", b"pid 1\n"), GOES_ON),
     // The first call of a start.
     (
@@ -70,15 +69,6 @@ const ENDINGS: [(Setting, Exchange<'static>, Ending); 12] = [
         },
         (b"spawn\n", b""),
         Err(BootFault::Frames),
-    ),
-    // A body of a pool with two blocks of map has 1,008 slots.
-    (
-        Setting {
-            store: NewStore::Pool(2),
-            ..PLAIN
-        },
-        (b"spawn\n", b""),
-        Err(BootFault::SmallPool),
     ),
     // A failed read stalls the access and changes nothing; the next access tries again, and a page that was read stays.
     (

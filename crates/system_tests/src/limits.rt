@@ -1,7 +1,8 @@
-//! How many runs a process has, and how many processes there are.
-use crate::bench::{GOES_ON, PLAIN, SMALL, Setting, left_in};
+//! How many runs a process has, how many processes there are, and how many pages an msync takes of a pool.
+use crate::bench::{Exchange, GOES_ON, PLAIN, SMALL, Setting, asked_after_start, left_in, same};
 use machine::Config;
 use std::process::Abort;
+use stores::NewStore;
 use vm_types::Mode;
 
 fn add(rt: &impl Abort, text: &mut Vec<u8>, bytes: &[u8]) {
@@ -76,4 +77,59 @@ fn there_are_64_processes(rt: HostRuntime) {
         b"stall 1 NOFRAMES\nok\npid 3\nstall 1 NOFRAMES\n".as_slice(),
     );
     expect_processes(&rt, SMALL, 7, no_frame, last);
+}
+
+/// A frame for each of 1,100 pages, and for the tables over them.
+const ROOM_FOR_PAGES: Config = Config {
+    frames: 1152,
+    slots: 0,
+    mode: Mode::Sv39,
+};
+
+/// Sees that a machine over a pool, with maps of so many blocks, on which so many pages of a file were stored to, gives these replies to the
+/// last lines: how many writes and syncs they ask the store's device for.
+fn asked_at_last(
+    rt: &(impl AllocGlobal + Abort),
+    blocks: u32,
+    pages: u32,
+    last: Exchange<'_>,
+) -> (u64, u64) {
+    let (mut trace, mut wanted) = (Vec::new(rt.alloc()), Vec::new(rt.alloc()));
+    add(rt, &mut trace, b"spawn\nmmap 1 0 0x44c000 rw- shared 0 0\n");
+    add(rt, &mut wanted, b"pid 1\naddr 0x10000\n");
+    for page in 16..pages.saturating_add(16) {
+        let line = format!(in rt.alloc(); "store 1 0x{page:x}000 1 1\n").expect(rt, "memory");
+        add(rt, &mut trace, line.as_bytes());
+        add(rt, &mut wanted, b"ok\n");
+    }
+    add(rt, &mut trace, last.0);
+    add(rt, &mut wanted, last.1);
+    let setting = Setting {
+        length: 4096 * 1100,
+        store: NewStore::Pool(blocks),
+        config: ROOM_FOR_PAGES,
+        ..PLAIN
+    };
+    asked_after_start(rt, setting, (trace.as_slice(), wanted.as_slice()))
+}
+
+/// A body of a pool has 504 slots for each block of its maps, and an msync takes as many pages. One of a page more is refused and leaves
+/// all as it was: its pages are made durable later. More blocks take more pages than a store with journals does.
+#[test]
+fn an_msync_takes_as_many_pages_as_a_body_has_slots(rt: HostRuntime) {
+    let all: Exchange<'_> = (b"msync 1 0x10000 0x44c000 sync\n", b"ok\n");
+    let refused: Exchange<'_> = (all.0, b"error 28 ENOSPC\n");
+    let in_parts: Exchange<'_> = (
+        b"msync 1 0x10000 0x44c000 sync\nmsync 1 0x10000 0x1f8000 sync\nmsync 1 0x10000 0x44c000 sync\n",
+        b"error 28 ENOSPC\nok\nok\n",
+    );
+    for (blocks, pages, last, asked) in [
+        (1, 504, all, (8 * 504 + 8 + 1, 2)),
+        (1, 505, refused, (0, 0)),
+        // The last page makes way for a next msync: the others are written home.
+        (1, 505, in_parts, (8 * 504 + 8 + 1 + 8 * 505 + 8 + 1, 4)),
+        (3, 1100, all, (8 * 1100 + 24 + 1, 2)),
+    ] {
+        same(&rt, asked_at_last(&rt, blocks, pages, last), asked);
+    }
 }

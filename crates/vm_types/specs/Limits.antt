@@ -23,10 +23,6 @@ user_end mode = if mode == 39 then 2 ^ 26 else 2 ^ 35
 abbrev pub widest_end : ℕ
 widest_end = 2 ^ 35
 
--- the most pages that one msync makes durable
-abbrev pub msync_pages : ℕ
-msync_pages = 1023
-
 -- the most files of an image
 abbrev pub file_limit : ℕ
 file_limit = 64

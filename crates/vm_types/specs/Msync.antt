@@ -1,7 +1,7 @@
 -- msync: what it is asked for, when it is refused, and what it makes durable, all at once.
 -- msync(2); Park, Kelly and Shen, Failure-Atomic msync, EuroSys 2013.
 use Rattle.std.specs.Prelude.{ℕ, ◌+◌, ◌/◌, ◌%◌, Bool, false, not, ◌==◌, ◌&&◌, nat_lt, if◌then◌else◌, [], ◌∷◌, Option, Some, None}
-use Rattle.vm_types.specs.Limits.{msync_pages, file_limit, file_page_limit}
+use Rattle.vm_types.specs.Limits.{file_limit, file_page_limit}
 use Rattle.vm_types.specs.declared.command.MsyncMode.{MsyncMode}
 use Rattle.vm_types.specs.declared.command.MsyncMode.TheVariants.{Sync, Async}
 use Rattle.vm_types.specs.declared.refusal.Errno.{Errno}
@@ -51,7 +51,7 @@ abbrev pub row_ruling : State → ℕ → ℕ → ℕ → MsyncMode → Ruling
 row_ruling s pid first count Async = Passes
 row_ruling s pid first count Sync =
     let n = touched_count s pid first count in
-    if nat_lt msync_pages n then Refuses ENOSPC else (if n == 0 then Passes else Takes pid first count)
+    if nat_lt s.most n then Refuses ENOSPC else (if n == 0 then Passes else Takes pid first count)
 
 -- the checks in their order
 abbrev pub msync_ruling : State → ℕ → ℕ → ℕ → MsyncMode → Ruling

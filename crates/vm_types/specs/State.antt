@@ -14,8 +14,9 @@ pub record State : Type 0 where
   pub live : ℕ → Bool
   -- the mapped pages of each process: process, page number
   pub views : ℕ → ℕ → Option View
-  -- the files, which never change
+  -- the files, which never change, and the most pages of them that one msync makes durable
   pub files : Files
+  pub most : ℕ
   -- the bytes of each file page that all mappings see
   pub volatile : Pages
   -- the bytes of each file page that outlive a stop

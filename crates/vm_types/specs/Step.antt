@@ -216,6 +216,7 @@ sample_state count = record {
   live = λ pid. not (pid == 0) && nat_lt pid (count + 1);
   views = λ pid. sample_space;
   files = λ file. None;
+  most = 0;
   volatile = λ file page. zero_page;
   durable = λ file page. zero_page;
   touched = λ file page. false;

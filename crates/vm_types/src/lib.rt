@@ -46,6 +46,3 @@ pub const NAMED_OBJECTS: usize = 64 * 256;
 
 /// The most faults that are kept.
 pub const FAULTS: usize = 16;
-
-/// The most touched pages that one msync makes durable.
-pub const MSYNC_PAGES: usize = 1023;

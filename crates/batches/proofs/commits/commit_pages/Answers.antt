@@ -1,4 +1,4 @@
-use Rattle.{std.proofs.{Common.{◌≡◌, inl, sym, ◌∙◌, rules}, lemmas.Result.{IfErr-weaker}}, disk_model.proofs.Moments.{started}, file_store.specs.Commit.{StandsForEither}, batches.specs.declared.commits.BatchFault.TheVariants.{Device}}
+use Rattle.{std.proofs.{Common.{◌≡◌, inl, sym, ◌∙◌, rules}, lemmas.Result.{IfErr-weaker}}, disk_model.proofs.Moments.{started}, stores.specs.{Images.{StandsForEither}, Store.{disk_of}}, batches.specs.declared.commits.BatchFault.TheVariants.{Device}}
 use Rattle.batches.specs.declared.commits.BatchFault.TheVariants.{BadPages, ReadOnly}
 use Rattle.batches.proofs.commits.commit_pages.Goals as goal
 
@@ -12,10 +12,11 @@ returns-in-Ok-clause-refused g c = IfErr-weaker c.commit_good.result _ _ (λ fau
 
 pub returns-in-Err-clause-commits : goal.returns-in-Err-clause-commits
 returns-in-Err-clause-commits g c =
-    let disk = c.args.store.now.disk in
+    let disk = disk_of c.args.store.now in
     record {
       ok = search rules;
       ready = search rules;
+      room = search rules;
       calm = search rules;
       any_moment = λ k files before after left changes. started g.D.SectorDisk disk (StandsForEither (g.D.SectorDisk.sector_count disk) files before after)
           (λ image past. g.met.D.SectorDisk.only_now disk image k past) (λ image may. inl (left image may));

@@ -1,4 +1,4 @@
-use Rattle.{std.proofs.Common.{◌≡◌, ◌<◌, ℕ, Some, slice_get}, vm_types.specs.declared.file.FilePage.{FilePage}, file_store.specs.Store.{files_of}, batches.specs.Pages.{IsReadOnly}}
+use Rattle.{std.proofs.Common.{◌≡◌, ◌<◌, ℕ, Some, slice_get}, vm_types.specs.declared.file.FilePage.{FilePage}, stores.specs.Store.{files_of}, batches.specs.Pages.{IsReadOnly}}
 use Rattle.batches.proofs.pages.has_read_only.Given as goal
 
 abbrev pub invariant-loop-page : goal.invariant-loop-page

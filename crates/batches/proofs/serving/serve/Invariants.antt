@@ -1,4 +1,4 @@
-use Rattle.file_store.specs.Store.{IsReadyStore}
+use Rattle.stores.specs.Store.{IsReadyStore}
 use Rattle.batches.proofs.serving.serve.Given as goal
 
 abbrev pub invariant-loop : goal.invariant-loop

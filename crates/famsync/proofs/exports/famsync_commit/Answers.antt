@@ -1,4 +1,4 @@
-use Rattle.{std.proofs.Common.{length, inl, sym, subst}, disk_model.specs.Stop.{Image}, file_store.specs.Standing.{StandsFor}, sync_plans.{proofs.Theorem.{nothing_listed}, specs.{Pages.{lent_page}, Plans.{row}}}}
+use Rattle.{std.proofs.Common.{length, inl, sym, subst}, disk_model.specs.Stop.{Image}, stores.specs.Images.{StandsFor}, sync_plans.{proofs.Theorem.{nothing_listed}, specs.{Pages.{lent_page}, Plans.{row}}}}
 use Rattle.famsync.proofs.exports.famsync_commit.Goals as goal
 
 pub returns-then-handle-ne-READY-clause-any_moment : goal.returns-then-handle-ne-READY-clause-any_moment

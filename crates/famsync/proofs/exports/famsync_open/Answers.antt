@@ -1,4 +1,4 @@
-use Rattle.{std.proofs.Common.{[], length, sym, subst, arith}, disk_model.specs.Stop.{Image}, file_store.specs.Standing.{StandsFor}, sync_plans.{proofs.Theorem.{fewer, nothing_listed}, specs.{Pages.{lent_page}, Plans.{row}}}}
+use Rattle.{std.proofs.Common.{[], length, sym, subst, arith}, disk_model.specs.Stop.{Image}, stores.specs.Images.{StandsFor}, sync_plans.{proofs.Theorem.{fewer, nothing_listed}, specs.{Pages.{lent_page}, Plans.{row}}}}
 use Rattle.famsync.proofs.exports.famsync_open.Goals as goal
 
 -- so that a plan of fewer calls is refused where it leaves the gate open

@@ -1,5 +1,6 @@
-use Rattle.msync.proofs.Names.{◌≤◌, sym, subst, arith, on_err_weaker, IfOk, OnErr, Backing, is_touched, Gathers, HasAll}
-use Rattle.msync.{specs.Choice.{of_files, is_taken_behind, Appends, OverflowsRow}, proofs.{Appending.{both_ok}, Gathering.{Reaches, gathered, overflown}}}
+use Rattle.std.{proofs.lemmas.List.{with_items_is}, specs.Vec.{with_items}}
+use Rattle.msync.proofs.Names.{ℕ, ◌≤◌, ◌∙◌, sym, ap, arith, length, on_err_weaker, Gathers, HasAll, IsGathering}
+use Rattle.msync.{specs.{Shows.{RoomSize}}, proofs.{Appending.{both_ok}, Gathering.{Reaches, gathered, overflown}}}
 use Rattle.msync.proofs.choosing.choose_behind.Goals as goal
 
 pub returns-in-Shared-clause-ok : goal.returns-in-Shared-clause-ok
@@ -7,15 +8,40 @@ returns-in-Shared-clause-ok c =
     let t = c.args.cache.now in
     let first = c.in-Shared.first in
     let front = c.min-count.result in
+    let old = c.deref_mut.result.now in
+    let new = c.dirty_in.new.list in
     let less : front ≤ c.args.count = omega (arith, c.min-count.ensures) in
     let reaches : Reaches first.page c.args.count front = λ k low high. omega (arith, c.min-count.ensures, low, high) in
-    rw c.in-Shared.is (both_ok (Gathers t first.file first.page front c.args.used c.args.list.now c.dirty_in.new.list) (HasAll t first.file first.page front c.dirty_in.new.list) _ c.dirty_in.result
-    (gathered t first c.args.count front c.args.used c.args.list.now c.dirty_in.new.list less reaches c.requires.inside)
+    let is = with_items_is c.args.list.now.pages new (c.dirty_in.auto.list ∙ c.deref_mut.ensures.len) in
+    rw (c.in-Shared.is, is, ← c.deref_mut.ensures.value) (both_ok (Gathers t first.file first.page front c.args.used old new c.dirty_in.new.ranks) (HasAll t first.file first.page front new) _ c.dirty_in.result
+    (gathered t first c.args.count front c.args.used old new c.dirty_in.new.ranks less reaches c.requires.inside)
     c.dirty_in.ensures.gathered c.dirty_in.ensures.all)
+
+pub returns-in-Shared-clause-next : goal.returns-in-Shared-clause-next
+returns-in-Shared-clause-next c =
+    let t = c.args.cache.now in
+    let first = c.in-Shared.first in
+    let new = c.dirty_in.new.list in
+    let ranks = c.dirty_in.new.ranks in
+    let P : ℕ → Type 0 = Gathers t first.file first.page c.min-count.result c.args.used c.deref_mut.result.now new ranks in
+    let pages_is = with_items_is c.args.list.now.pages new (c.dirty_in.auto.list ∙ c.deref_mut.ensures.len) in
+    let ranks_is = with_items_is c.args.list.now.ranks ranks (c.dirty_in.auto.ranks ∙ c.deref_mut-in-Shared.ensures.len) in
+    rw (pages_is, ranks_is) (both_ok P P (IsGathering t new ranks) c.dirty_in.result (λ n made also. made.next) c.dirty_in.ensures.gathered c.dirty_in.ensures.gathered)
 
 pub returns-in-Shared-clause-too_many : goal.returns-in-Shared-clause-too_many
 returns-in-Shared-clause-too_many c =
     let t = c.args.cache.now in
+    let old = c.deref_mut.result.now in
     let less : c.min-count.result ≤ c.args.count = omega (arith, c.min-count.ensures) in
-    rw c.in-Shared.is (on_err_weaker c.dirty_in.result (λ over. overflown t c.in-Shared.first c.args.count c.min-count.result c.args.used c.args.list.now c.dirty_in.new.list less c.requires.few over)
+    rw (c.in-Shared.is, ← c.deref_mut.ensures.value) (on_err_weaker c.dirty_in.result
+    (λ over. overflown t c.in-Shared.first c.args.count c.min-count.result c.args.used old c.dirty_in.new.list c.dirty_in.new.ranks less over)
     c.dirty_in.ensures.too_many)
+
+pub returns-in-Shared-clause-size : goal.returns-in-Shared-clause-size
+returns-in-Shared-clause-size c =
+    let was = c.args.list.now in
+    let pages = with_items was.pages c.dirty_in.new.list in
+    let ranks = with_items was.ranks c.dirty_in.new.ranks in
+    let by_pages : ℕ → RoomSize = λ n. record { most = n; ranks = length ranks.items } in
+    let by_ranks : ℕ → RoomSize = λ n. record { most = length was.pages.items; ranks = n } in
+    ap by_pages (sym pages.ok.0 ∙ was.pages.ok.0) ∙ ap by_ranks (sym ranks.ok.0 ∙ was.ranks.ok.0)

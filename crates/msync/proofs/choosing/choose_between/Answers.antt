@@ -1,11 +1,13 @@
-use Rattle.msync.{proofs.{Names.{ℕ, ◌≡◌, ◌-◌, arith, subst, attr_at, is_touched, on_err}, Walking.{walk_start, walk_on, walk_over, walk_end}}, specs.Choice.{of_files, is_chosen, is_taken_behind, Appends, OverflowsRow}}
+use Rattle.msync.{proofs.{Names.{◌≡◌, ◌-◌, ◌∙◌, refl, arith, attr_at, is_touched, on_err}, Walking.{walk_start, walk_on, walk_over, walk_end}}, specs.Choice.{of_files}}
 use Rattle.msync.proofs.choosing.choose_between.Goals as goal
 
 pub loop-page-init : goal.loop-page-init
 loop-page-init g c = record {
   from = omega arith;
   to = c.requires.order;
-  chosen = walk_start (of_files (is_touched c.args.cache.now)) (attr_at c.args.regions.now) c.args.first c.args.list.now;
+  chosen = walk_start (of_files (is_touched c.args.cache.now)) (attr_at c.args.regions.now) c.args.first c.args.list.now.pages.items;
+  next = record { room = omega arith; nodes = c.requires.ranks; ranked = λ i less. absurd (omega (arith, less)) };
+  size = refl;
 }
 
 pub loop-page-preserved : goal.loop-page-preserved
@@ -20,14 +22,16 @@ loop-page-preserved g c =
     record {
       from = omega (arith, next.from, next.nonempty);
       to = omega arith;
-      chosen = walk_on g.M.Levels.mode touched map c.args.first c.loop-page.page stop run next c.loop-page.invariant.from (omega arith) c.args.list.now c.loop-page.list
-          c.choose_behind.new.list c.loop-page.count c.in_ok-count.count (omega (arith, next.from, next.nonempty)) c.loop-page.invariant.chosen step;
+      chosen = walk_on g.M.Levels.mode touched map c.args.first c.loop-page.page stop run next c.loop-page.invariant.from (omega arith) c.args.list.now.pages.items
+          c.loop-page.list.pages.items c.choose_behind.new.list.pages.items c.loop-page.count c.in_ok-count.count (omega (arith, next.from, next.nonempty)) c.loop-page.invariant.chosen step;
+      next = c.in_ok-count.ensures.next;
+      size = c.in_ok-count.ensures.size ∙ c.loop-page.invariant.size;
     }
 
 pub returns-in_default-clause-ok : goal.returns-in_default-clause-ok
 returns-in_default-clause-ok g c =
     let map = attr_at c.args.regions.now in
-    walk_end (of_files (is_touched c.args.cache.now)) map c.args.first c.loop-page.page c.args.end c.args.list.now c.loop-page.list c.loop-page.count
+    walk_end (of_files (is_touched c.args.cache.now)) map c.args.first c.loop-page.page c.args.end c.args.list.now.pages.items c.loop-page.list.pages.items c.loop-page.count
     c.in_default.ensures.none c.loop-page.invariant.to c.loop-page.invariant.chosen
 
 pub returns-in_err-count-clause-too_many : goal.returns-in_err-count-clause-too_many
@@ -40,8 +44,8 @@ returns-in_err-count-clause-too_many g c =
     let count : c.saturating_sub-pages.result ≡ stop - run.first = omega (arith, c.saturating_sub-pages.ensures) in
     let step = rw count at c.in_err-count.ensures.too_many in
     on_err c.from_residual.result
-    (walk_over g.M.Levels.mode touched map c.args.first c.loop-page.page stop run next c.loop-page.invariant.from (omega arith) c.args.end c.args.list.now c.loop-page.list c.loop-page.count
-    c.loop-page.invariant.to (omega arith) c.loop-page.invariant.chosen step)
+    (walk_over g.M.Levels.mode touched map c.args.first c.loop-page.page stop run next c.loop-page.invariant.from (omega arith) c.args.end c.args.list.now.pages.items c.loop-page.list.pages.items
+    c.loop-page.count c.loop-page.invariant.to (omega arith) c.loop-page.invariant.chosen step)
 
 pub returns-clause-ok : goal.returns-clause-ok
 returns-clause-ok g c =

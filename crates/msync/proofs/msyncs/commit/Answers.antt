@@ -1,7 +1,7 @@
-use Rattle.msync.proofs.{Asking.{asks_listed}, Committing.{fits, front_few, least_one, are_pages, room_next, room_left, are_spots, front_lists, changes, synced_shows, memory_synced, away_of, err_is}}
+use Rattle.msync.proofs.{Asking.{asks_listed}, Committing.{front_few, least_one, are_pages, room_next, room_left, are_spots, front_lists, changes, synced_shows, memory_synced, away_of, err_is}}
 use Rattle.msync.proofs.Committing.{device_failed, source_failed, store_same, commit_done, commit_failed, commit_unread}
-use Rattle.msync.proofs.{Committing.{StoreCommits}, Names.{◌≡◌, ◌≢◌, ◌⊎◌, inl, inr, length, take, refl, sym, ◌∙◌, subst, rules, LeavesNow, AsksOnly, Store, StandsFor, IsReadyStore, IsUsedIn, slots_of, Source, committed, Stall}}
-use Rattle.msync.proofs.Names.{HasRoomFor, directory_of, disk_of, kept_of, least_of, free_of, msync_pages}
+use Rattle.msync.proofs.{Committing.{StoreCommits}, Names.{◌≡◌, ◌≢◌, ◌⊎◌, inl, inr, length, take, refl, sym, ◌∙◌, subst, arith, rules, LeavesNow, AsksOnly, Store, StandsFor, IsReadyStore, IsUsedIn, slots_of, Source, committed, Stall}}
+use Rattle.msync.proofs.Names.{HasRoom, always_free_in, directory_of, disk_of, kept_of, least_of, free_of}
 use Rattle.msync.{proofs.{Names.{SwapDevice, Stalled, picture_of, IsFit, ShowsPages}, SettledPages.{ready_shared, settles_nothing}}, specs.{Asking.{IsSectorListed}, Choice.{chosen_of, IsAway}, Settling.{Settles, SettlesMemory}}}
 use Rattle.{msync.specs.{Shows.{IsSoundCore}, Spots.{AreSpots, HasSlot}}, swap.specs.declared.pages.Pages.{Pages as Swap_pages}}
 use Rattle.msync.proofs.msyncs.commit.Goals as goal
@@ -9,8 +9,12 @@ use Rattle.msync.proofs.msyncs.commit.Goals as goal
 pub commit-requires-clause-pages : goal.commit-requires-clause-pages
 commit-requires-clause-pages g c =
     let store = c.args.core.now.store in
-    are_pages (picture_of c.args.core.now) (chosen_of c.args.list.now c.args.count) (least_of store) (free_of store) (least_one (kept_of store)) c.requires.sound.room.next
-    c.requires.sound.fit c.requires.listed
+    are_pages (picture_of c.args.core.now) (chosen_of c.args.list.now c.args.count) (least_of store) (free_of store) (least_one (kept_of store))
+    (omega (arith, c.requires.few, c.requires.sound.room)) c.requires.sound.fit c.requires.listed
+
+pub fill_spots-requires-clause-room : goal.fill_spots-requires-clause-room
+fill_spots-requires-clause-room g c =
+    front_few (picture_of c.args.core.now) (chosen_of c.args.list.now c.args.count) (length c.args.spots.now) c.requires.listed c.requires.room
 
 pub settle-requires-clause-fit : goal.settle-requires-clause-fit
 settle-requires-clause-fit g c =
@@ -33,7 +37,7 @@ returns-in-Ok g c =
     let front = take ch.count ch.list in
     let list = take (length front) c.fill_spots.new.spots in
     let spots = c.fill_spots.ensures in
-    let few = fits (picture_of old) ch c.requires.listed in
+    let few = c.requires.listed.few in
     let done = c.in-Ok.ensures in
     let reads = done.asks.follows.2 in
     let source = c.commit.new.source.swap.now in
@@ -44,12 +48,15 @@ returns-in-Ok g c =
     (sym reads.slots) (sym done.files) c.settle.ensures.settles in
     let sound : IsSoundCore g.D.SectorDisk g.E.SectorDisk new = record {
       ready = subst (λ (x : Store g.row.D.Denot). IsReadyStore g.D.SectorDisk x) (sym beside.store) done.ready;
-      room = subst (λ (x : Store g.row.D.Denot). HasRoomFor msync_pages (kept_of x)) (sym beside.store)
-          (room_next (kept_of old.store) (kept_of c.commit.new.self) (length front) c.requires.sound.room (front_few (picture_of old) ch c.requires.listed) done.room done.always);
+      room = subst (λ (x : Store g.row.D.Denot). HasRoom (kept_of x)) (sym beside.store)
+          (room_next (kept_of old.store) (kept_of c.commit.new.self) (length front) (front_few (picture_of old) ch (always_free_in (kept_of old.store)) c.requires.listed c.requires.few) done.room
+          done.always);
       swap = ready_shared g.E.SectorDisk source new.swap (reads.ready c.requires.sound.swap) beside.pages c.settle.ensures.settles.slots;
       fit = c.settle.ensures.fit;
     } in
     let memory = memory_synced (picture_of old) (picture_of new) ch list c.requires.sound.fit c.requires.listed spots settles in
+    let always : always_free_in (kept_of new.store) ≡ always_free_in (kept_of old.store) =
+    subst (λ (x : Store g.row.D.Denot). always_free_in (kept_of x) ≡ always_free_in (kept_of old.store)) (sym beside.store) done.always in
     let apart : (new.swap ≡ old.swap) ⊎ IsAway (picture_of old) ch = elim c.settle.ensures.swap [
       | inl same ↦ elim reads.only [ inl was ↦ inl (same ∙ was) | inr has ↦ inr (away has) ]
       | inr has ↦ inr (away has)
@@ -65,6 +72,7 @@ returns-in-Ok g c =
           λ m has. subst (λ (p : Swap_pages g.row.E.Denot). g.E.SectorDisk.keeps_model p.disk) beside.pages (m (away (subst (λ l. HasSlot l) done.asks.follows.1 has))) in
           let commits_to : StoreCommits g.D.SectorDisk M n s.files s.durable taken old.store c.commit.new.self = record {
             directory = done.files;
+            always = done.always;
             size = done.size;
             kept = done.kept;
             either = λ k m now. done.any_moment k (model m) s.files s.durable taken now change;
@@ -90,7 +98,7 @@ returns-in-Err-Device g c =
     let front = take ch.count ch.list in
     let list = take (length front) c.fill_spots.new.spots in
     let spots = c.fill_spots.ensures in
-    let few = fits (picture_of old) ch c.requires.listed in
+    let few = c.requires.listed.few in
     let done = c.in-Err-Device.ensures in
     let reads = done.asks.follows.2 in
     let source = c.commit.new.source.swap.now in
@@ -108,7 +116,7 @@ returns-in-Err-Device g c =
           let model : M → HasSlot c.commit.new.source.spots.now → g.E.SectorDisk.keeps_model source.pages.disk =
           λ m has. m (away (subst (λ l. HasSlot l) done.asks.follows.1 has)) in
           commit_failed g.D.SectorDisk g.E.SectorDisk M old _ s after pid addr len mode ch shows same takes
-          (record { directory = done.files; size = done.size; kept = done.kept; either = λ k m now. done.any_moment k (model m) s.files s.durable taken now change })
+          (record { directory = done.files; always = done.always; size = done.size; kept = done.kept; either = λ k m now. done.any_moment k (model m) s.files s.durable taken now change })
           (record { directory = done.files; slots = reads.slots; frames = refl; cache = refl; roots = refl; regions = refl; page_of = refl; clock = refl; refused = refl })
           (device_failed _ _ _ _ c.in-Err-Device.field-0 c.in-Err-Device.field-0-is done.causes);
       ends = search rules;
@@ -124,7 +132,7 @@ returns-in-Err-Source g c =
     let front = take ch.count ch.list in
     let list = take (length front) c.fill_spots.new.spots in
     let spots = c.fill_spots.ensures in
-    let few = fits (picture_of old) ch c.requires.listed in
+    let few = c.requires.listed.few in
     let done = c.in-Err-Source.ensures in
     let reads = done.asks.follows.2 in
     let source = c.commit.new.source.swap.now in
@@ -150,7 +158,7 @@ returns-in-Err-Source g c =
           let model : M → HasSlot c.commit.new.source.spots.now → g.E.SectorDisk.keeps_model source.pages.disk =
           λ m has. m (away (subst (λ l. HasSlot l) done.asks.follows.1 has)) in
           commit_unread g.D.SectorDisk g.E.SectorDisk M old _ s after pid addr len mode ch shows same takes
-          (record { directory = done.files; size = done.size; kept = done.kept; either = λ k m now. done.any_moment k (model m) s.files s.durable taken now change })
+          (record { directory = done.files; always = done.always; size = done.size; kept = done.kept; either = λ k m now. done.any_moment k (model m) s.files s.durable taken now change })
           (record { directory = done.files; slots = reads.slots; frames = refl; cache = refl; roots = refl; regions = refl; page_of = refl; clock = refl; refused = refl })
           (source_failed _ _ _ _ c.in-Err-Source.field-0 c.in-Err-Source.field-0-is done.causes)
           (store_same (λ x. ShowsPages x s) (picture_of old) (slots_of old.swap) (slots_of source) (directory_of old.store) (directory_of c.commit.new.self) reads.slots done.files shows.pages) sound

@@ -3,7 +3,6 @@ use Rattle.msync.proofs.msyncs.fill_spots.Given as goal
 
 abbrev pub invariant-loop-i : goal.invariant-loop-i
 invariant-loop-i g l = record {
-  room : length l.spots ≡ 1023;
   same : (j : ℕ) → j < l.i → (spot_at l.spots j).page ≡ chosen_page l.pages j;
   spots : (j : ℕ) → j < l.i → IsSpot (picture_of l.core) (spot_at l.spots j);
   whole : (j : ℕ) → j < l.i → length (bytes_there l.core.frames (slots_of l.core.swap) (spot_at l.spots j).at) ≡ 4096;

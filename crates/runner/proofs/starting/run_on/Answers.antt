@@ -16,7 +16,6 @@ returns-clause-booted g c = record {
   honest = c.in-Ok.ensures.accepts.kept;
   layout = c.in-Ok.ensures.accepts.layout;
   journal = c.in-Ok.ensures.accepts.journal;
-  pool = c.in-Ok.ensures.accepts.pool;
   opening = c.in-Ok.ensures.moments.any_moment;
   in_a_row = c.in-Ok.ensures.moments.in_a_row;
   asks = c.in-Ok.ensures.accepts.asks;

@@ -1,41 +1,27 @@
-use Rattle.sync_plans.proofs.{Growth.{alike_unsynced}, Names.{ℕ, List, [], ◌∙◌, IsTrue, IfErr, length, ap, sym, subst, ⊎_elim, arith, Image, file_info, standing_page, stands_for_itself}, Runs.{refuses_image}, Theorem.{stands_now, layouts}}
-use Rattle.sync_plans.{proofs.Theorem.{stops_leave, began_pages, same_end, as_given}, specs.{Pages.{lent_page}, PlanDisk.{pages_of}, Plans.{row, AreCalls, AreSources, image_after}, Requests.{IsStore, IsClosed, KeepsOutside, RefusesImage}}}
+use Rattle.sync_plans.proofs.{Made.{Begins, LeavesLayout, few, full_list, stands_now, plan, ends, stop}, Names.{ℕ, ◌≡◌, false, List, [], IfErr, length, ⊎_elim, sym, ap, subst, ◌∙◌, min, arith, rules, Image, StandsFor, is_pool, IsClosed}, Runs.{refuses_image}, Theorem.{as_given}}
+use Rattle.sync_plans.specs.{Pages.{lent_page}, PlanDisk.{content_of}, Plans.{row, room_of}, Requests.{IsStore, KeepsOutside, RefusesImage}}
 use Rattle.sync_plans.proofs.planning.plan_open.Goals as goal
 
-pub returns-in-Ok-clause-opens : goal.returns-in-Ok-clause-opens
-returns-in-Ok-clause-opens c =
+pub copy_to-requires : goal.copy_to-requires
+copy_to-requires c =
     let d0 = c.new-disk.result in
     let d = c.open-disk.result.0 in
-    let image = row c.args.image.now in
-    let opens = rw c.in-Ok.is at (c.open-disk.ensures.opens c.if-disk.false) in
-    let store = as_given d0.calls.now d0.rows.now c.args.image.now d0.image.now (pages_of d0) d0.used (λ sectors first. IsStore sectors first) c.new-disk.ensures.image c.new-disk.ensures.used opens.store in
-    let stands = stands_for_itself (length c.args.image.now) image store.layout store.journal in
-    let now = stands_now d0.calls.now d.calls.now c.copy_to.new.calls d0.rows.now d.rows.now c.copy_to.new.rows c.args.image.now d0.image.now d.image.now (lent_page []) (pages_of d0) (pages_of d) d0.used d.used
-    (file_info image) (standing_page image) (standing_page image) c.new-disk.ensures.image (ap lent_page c.new-disk.ensures.lent) c.new-disk.ensures.used stands in
-    let run = c.open-disk.ensures.any_moment c.if-disk.false (file_info image) (standing_page image) now in
-    let moments = layouts d0.calls.now d.calls.now c.copy_to.new.calls d0.rows.now d.rows.now c.copy_to.new.rows c.args.image.now d0.image.now d.image.now (lent_page []) (pages_of d0) (pages_of d) d0.used d.used
-    (file_info image) (standing_page image) (standing_page image) c.new-disk.ensures.image (ap lent_page c.new-disk.ensures.lent) c.new-disk.ensures.used stands run.before c.copy_to.ensures.calls c.copy_to.ensures.rows in
-    let same = same_end d0.calls.now d.calls.now c.copy_to.new.calls d0.rows.now d.rows.now c.copy_to.new.rows c.args.image.now d0.image.now d.image.now (lent_page []) (pages_of d0) (pages_of d) d0.used d.used
-    c.new-disk.ensures.image (ap lent_page c.new-disk.ensures.lent) c.new-disk.ensures.used store.layout moments c.copy_to.ensures.calls c.copy_to.ensures.rows in
-    record {
-      store = store;
-      plan = record {
-        few = d.within;
-        all = subst (λ (sectors : ℕ). AreCalls sectors c.copy_to.new.calls d.used) (c.open-disk.ensures.size ∙ ap length c.new-disk.ensures.image) c.copy_to.ensures.all;
-        sources = subst (λ (p : ℕ → List ℕ). AreSources p c.copy_to.new.calls d.used) (sym (began_pages d0.calls.now d.calls.now c.copy_to.new.calls d0.rows.now d.rows.now c.copy_to.new.rows c.args.image.now d0.image.now d.image.now (lent_page []) (pages_of d0) (pages_of d) d0.used d.used
-            c.new-disk.ensures.image (ap lent_page c.new-disk.ensures.lent) c.new-disk.ensures.used store.layout moments)) c.copy_to.ensures.sources;
-        synced = λ n u. opens.synced n (subst IsTrue (alike_unsynced d.calls.now c.copy_to.new.calls d.used c.copy_to.ensures.calls d.used n (omega arith)) u);
-      };
-      any_moment = λ files before stands left stop.
-          let now = stands_now d0.calls.now d.calls.now c.copy_to.new.calls d0.rows.now d.rows.now c.copy_to.new.rows c.args.image.now d0.image.now d.image.now (lent_page []) (pages_of d0) (pages_of d) d0.used d.used
-          files before before c.new-disk.ensures.image (ap lent_page c.new-disk.ensures.lent) c.new-disk.ensures.used stands in
-          let run = c.open-disk.ensures.any_moment c.if-disk.false files before now in
-          ⊎_elim (λ s. s) (λ s. s) (stops_leave d0.calls.now d.calls.now c.copy_to.new.calls d0.rows.now d.rows.now c.copy_to.new.rows c.args.image.now d0.image.now d.image.now (lent_page []) (pages_of d0) (pages_of d) d0.used d.used
-          files before before c.new-disk.ensures.image (ap lent_page c.new-disk.ensures.lent) c.new-disk.ensures.used stands run.before c.copy_to.ensures.calls c.copy_to.ensures.rows run.each left stop);
-      closed = subst IsClosed (sym same) opens.closed;
-      outside = subst (λ (i : Image). KeepsOutside (length c.args.image.now) image i) (sym same)
-          (as_given d0.calls.now d0.rows.now c.args.image.now d0.image.now (pages_of d0) d0.used (λ sectors first. KeepsOutside sectors first (image_after d.calls.now d.rows.now (pages_of d) (row d.image.now) d.used)) c.new-disk.ensures.image c.new-disk.ensures.used opens.outside);
-    }
+    let room = room_of c.args.scratch.calls.now c.args.scratch.rows.now c.args.calls.now c.args.rows.now in
+    let most : c.min.result ≡ min (length c.args.calls.now) (length c.args.rows.now) = search rules in
+    let begins : Begins c.args.image.now (lent_page []) room d0 = record {
+      given = c.new-disk.ensures.image;
+      lent = ap lent_page c.new-disk.ensures.lent;
+      room = c.new-disk.ensures.room ∙ ap (min (min (length c.args.scratch.calls.now) (length c.args.scratch.rows.now))) most;
+      used = c.new-disk.ensures.used;
+      kept = λ k lost. let none = c.new-disk.ensures.lost k in omega (arith, none, lost);
+    } in
+    let runs : LeavesLayout d0 d = record {
+      size = c.open-disk.ensures.stays.size;
+      layout = λ store. (c.open-disk.ensures.stays.layout_moment tt store).before;
+      bad = λ bad. (c.open-disk.ensures.stays.bad_unwritten tt bad).moments;
+    } in
+    let few = few c.args.image.now (lent_page []) room d0 d begins runs in
+    record { room = (omega (arith, few), omega (arith, few)) }
 
 pub returns-in-Err-clause-no_room : goal.returns-in-Err-clause-no_room
 returns-in-Err-clause-no_room c = λ is.
@@ -45,12 +31,60 @@ returns-in-Err-clause-no_room c = λ is.
 
 pub returns-then-disk-clause-no_room : goal.returns-then-disk-clause-no_room
 returns-then-disk-clause-no_room c = λ is.
+    let d0 = c.new-disk.result in
     let d = c.open-disk.result.0 in
-    subst (λ (sectors : ℕ). AreCalls sectors c.copy_to.new.calls 16384) (c.open-disk.ensures.size ∙ ap length c.new-disk.ensures.image)
-    (subst (λ (used : ℕ). AreCalls (length d.image.now) c.copy_to.new.calls used) (d.filled c.if-disk.true) c.copy_to.ensures.all)
+    let room = room_of c.args.scratch.calls.now c.args.scratch.rows.now c.args.calls.now c.args.rows.now in
+    let most : c.min.result ≡ min (length c.args.calls.now) (length c.args.rows.now) = search rules in
+    let begins : Begins c.args.image.now (lent_page []) room d0 = record {
+      given = c.new-disk.ensures.image;
+      lent = ap lent_page c.new-disk.ensures.lent;
+      room = c.new-disk.ensures.room ∙ ap (min (min (length c.args.scratch.calls.now) (length c.args.scratch.rows.now))) most;
+      used = c.new-disk.ensures.used;
+      kept = λ k lost. let none = c.new-disk.ensures.lost k in omega (arith, none, lost);
+    } in
+    let runs : LeavesLayout d0 d = record {
+      size = c.open-disk.ensures.stays.size;
+      layout = λ store. (c.open-disk.ensures.stays.layout_moment tt store).before;
+      bad = λ bad. (c.open-disk.ensures.stays.bad_unwritten tt bad).moments;
+    } in
+    full_list c.args.image.now (lent_page []) room d0 d begins runs c.copy_to.new.calls c.copy_to.new.rows c.copy_to.ensures.all c.if-disk.true
+
+pub returns-in-Ok-clause-opens : goal.returns-in-Ok-clause-opens
+returns-in-Ok-clause-opens c =
+    let d0 = c.new-disk.result in
+    let d = c.open-disk.result.0 in
+    let room = room_of c.args.scratch.calls.now c.args.scratch.rows.now c.args.calls.now c.args.rows.now in
+    let most : c.min.result ≡ min (length c.args.calls.now) (length c.args.rows.now) = search rules in
+    let begins : Begins c.args.image.now (lent_page []) room d0 = record {
+      given = c.new-disk.ensures.image;
+      lent = ap lent_page c.new-disk.ensures.lent;
+      room = c.new-disk.ensures.room ∙ ap (min (min (length c.args.scratch.calls.now) (length c.args.scratch.rows.now))) most;
+      used = c.new-disk.ensures.used;
+      kept = λ k lost. let none = c.new-disk.ensures.lost k in omega (arith, none, lost);
+    } in
+    let runs : LeavesLayout d0 d = record {
+      size = c.open-disk.ensures.stays.size;
+      layout = λ store. (c.open-disk.ensures.stays.layout_moment tt store).before;
+      bad = λ bad. (c.open-disk.ensures.stays.bad_unwritten tt bad).moments;
+    } in
+    let opens = rw c.in-Ok.is at (c.open-disk.ensures.opens tt) in
+    let store = as_given d0 c.args.image.now (λ sectors first. IsStore sectors first) begins.given begins.used opens.store in
+    let end = ends c.args.image.now (lent_page []) room d0 d begins runs c.copy_to.new.calls c.copy_to.new.rows c.copy_to.ensures.all c.copy_to.ensures.sources c.copy_to.ensures.calls c.copy_to.ensures.rows store in
+    record {
+      store = store;
+      plan = plan c.args.image.now (lent_page []) room d0 d begins runs c.copy_to.new.calls c.copy_to.new.rows c.copy_to.ensures.all c.copy_to.ensures.sources c.copy_to.ensures.calls c.copy_to.ensures.rows store opens.synced;
+      any_moment = λ files before stands left within.
+          let now = stands_now c.args.image.now (lent_page []) room d0 d begins files before stands in
+          subst (λ (xs : List (List ℕ)). StandsFor (length xs) files before left) begins.given
+          (⊎_elim (λ s. s) (λ s. s) ((c.open-disk.ensures.any_moment tt files before now).each left (stop c.args.image.now (lent_page []) room d0 d begins runs c.copy_to.new.calls c.copy_to.new.rows c.copy_to.ensures.all c.copy_to.ensures.sources c.copy_to.ensures.calls c.copy_to.ensures.rows store left within)));
+      closed = subst (λ (i : Image). is_pool (row c.args.image.now) ≡ false → IsClosed (length c.args.image.now) i) (sym end)
+          (as_given d0 c.args.image.now (λ sectors first. is_pool first ≡ false → IsClosed sectors (content_of d)) begins.given begins.used opens.closed);
+      outside = subst (λ (i : Image). KeepsOutside (length c.args.image.now) (row c.args.image.now) i) (sym end)
+          (as_given d0 c.args.image.now (λ sectors first. KeepsOutside sectors first (content_of d)) begins.given begins.used opens.outside);
+    }
 
 pub returns-in-Err-clause-refused : goal.returns-in-Err-clause-refused
 returns-in-Err-clause-refused c =
     let d0 = c.new-disk.result in
-    rw c.in-Err.is at (as_given d0.calls.now d0.rows.now c.args.image.now d0.image.now (pages_of d0) d0.used (λ sectors image. IfErr c.open-disk.result.1 (RefusesImage sectors image ⊥ ⊥)) c.new-disk.ensures.image c.new-disk.ensures.used
-    (refuses_image _ d0 c.open-disk.result.0 c.open-disk.result.1 c.if-disk.false (λ bad. bad) (λ denied. denied) c.open-disk.ensures.refused))
+    rw c.in-Err.is at (as_given d0 c.args.image.now (λ sectors image. IfErr c.open-disk.result.1 (RefusesImage sectors image ⊥ ⊥)) c.new-disk.ensures.image c.new-disk.ensures.used
+    (refuses_image _ d0 c.open-disk.result.0 c.open-disk.result.1 tt (λ bad. bad) (λ denied. denied) c.open-disk.ensures.refused))

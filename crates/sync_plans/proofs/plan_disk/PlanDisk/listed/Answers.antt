@@ -1,4 +1,4 @@
-use Rattle.sync_plans.proofs.{Names.{◌<◌, arith, length, slice_get-get_or}, Theorem.{is_lent}}
+use Rattle.sync_plans.proofs.{Names.{◌<◌, arith, length, slice_get-get_or}, Lent.{is_lent}}
 use Rattle.sync_plans.proofs.plan_disk.PlanDisk.listed.Goals as goal
 
 pub returns-clause-lent : goal.returns-clause-lent

@@ -1,10 +1,10 @@
-use Rattle.sync_plans.{proofs.{Names.{ℕ, List, ◌≡◌, ◌+◌, ◌-◌, ◌∙◌, length, ap, arith, refl, rules, same_text, part_of}, Theorem.{lent_here}}, specs.PlanDisk.{pages_of}}
+use Rattle.sync_plans.{proofs.{Names.{ℕ, List, ◌≡◌, ◌+◌, ◌-◌, ◌∙◌, length, ap, arith, refl, rules, same_text, part_of}, Lent.{lent_here}}, specs.PlanDisk.{pages_of}}
 use Rattle.sync_plans.proofs.plan_disk.PlanDisk.named.Goals as goal
 
 pub returns-then-eq-clause-sources : goal.returns-then-eq-clause-sources
 returns-then-eq-clause-sources c =
     let s = c.args.self.now in
-    let same : pages_of s s.next ≡ c.args.page.now = lent_here s.lent.now s.next _ c.if-self.true ∙ same_text _ c.args.page.now c.if-eq.ensures in
+    let same : pages_of s s.next ≡ c.args.page.now = lent_here s.lent.now s.next _ c.if-self-2.true ∙ same_text _ c.args.page.now c.if-eq.ensures in
     record {
       kind = (omega arith, omega arith);
       sector = refl;
@@ -16,6 +16,6 @@ returns-then-eq-clause-listable c =
     let s = c.args.self.now in
     record {
       is = search rules;
-      lent = λ _. ap length (lent_here s.lent.now s.next _ c.if-self.true ∙ same_text _ c.args.page.now c.if-eq.ensures) ∙ c.told-page;
+      lent = λ _. ap length (lent_here s.lent.now s.next _ c.if-self-2.true ∙ same_text _ c.args.page.now c.if-eq.ensures) ∙ c.told-page;
       unwritten = search rules;
     }

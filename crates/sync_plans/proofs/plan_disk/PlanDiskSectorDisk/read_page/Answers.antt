@@ -1,4 +1,4 @@
-use Rattle.sync_plans.{proofs.Names.{◌≡◌, ◌<◌, ◌+◌, ◌*◌, ◌-◌, length, ⊎_elim, sym, ap, subst, ◌∙◌, arith, rules, cases_eq, put_mid, part_of, put_here, put_there, length_put}, specs.PlanDisk.{content_of}}
+use Rattle.sync_plans.{proofs.Names.{◌≡◌, ◌<◌, ◌+◌, ◌*◌, ◌-◌, length, ⊎_elim, sym, ap, subst, ◌∙◌, arith, rules, cases_eq, put_mid, part_of, put_here, put_there, length_put, no_time}, specs.PlanDisk.{content_of, plan_moment, left_in, unsynced_in}}
 use Rattle.sync_plans.proofs.plan_disk.PlanDiskSectorDisk.read_page.Goals as goal
 
 pub loop-i-preserved : goal.loop-i-preserved
@@ -21,3 +21,6 @@ loop-i-preserved c =
           (λ other. put_there c.loop-i.to put i j k inv.long long below (omega (arith, less, other)) ∙ inv.gives j (omega (arith, less, other)))
           (cases_eq j i);
     }
+
+pub returns-clause-time : goal.returns-clause-time
+returns-clause-time c = λ _. let s = c.args.self.now in no_time (plan_moment s) (left_in s) (content_of s) (unsynced_in s)

@@ -1,0 +1,126 @@
+//! Plans of commits of many pages, for stores of layout 4.
+ghost use Rattle.directories.specs.Kinds.{IsMapSize};
+
+use super::client::{Client, carry_out, equal, expect, lent_of, made, rows_of, zeros};
+use disk_model::SimDisk;
+use std::process::Abort;
+use stores::NewStore;
+use sync_plans::PageUpdates;
+use vm_types::FilePage;
+
+/// How many pages the file has. It ends with the last of them.
+const PAGES: u32 = 1100;
+
+/// A device with a store of a file, and who asks for plans.
+#[derive(Drop)]
+struct Bench {
+    disk: SimDisk,
+    client: Client,
+}
+
+impl Bench {
+    /// A new store with maps of so many blocks.
+    fn new(rt: &(impl AllocGlobal + Abort), blocks: u32) -> Bench
+        requires { IsMapSize blocks }
+    {
+        let mut files = [zeros(PAGES * 4096, false)];
+        Bench {
+            disk: made(rt, NewStore::Pool(blocks), &mut files),
+            client: Client::new(rt),
+        }
+    }
+
+    /// Plans a commit of these pages, and carries it out. So many of its calls write a row, sync, write a page that is lent, and copy one.
+    fn commit(
+        &mut self,
+        rt: &(impl AllocGlobal + Abort),
+        pages: &[FilePage],
+        bytes: &[[u8; 4096]],
+        wanted: [usize; 4],
+    ) {
+        let lent = lent_of(rt, bytes);
+        let image = rows_of(rt, &self.disk);
+        let updates = PageUpdates {
+            pages,
+            bytes: lent.as_slice(),
+        };
+        let answer = self.client.ask(image.as_slice(), Some(updates));
+        let plan = &self.client.plan;
+        equal(rt, (answer, plan.counts()), (Ok(plan.used), wanted));
+        let is_done = carry_out(&mut self.disk, plan, lent.as_slice(), 0, plan.used);
+        expect(rt, is_done, "a commit that can't be carried out");
+    }
+
+    /// Plans an opening, and carries it out.
+    fn open(&mut self, rt: &(impl AllocGlobal + Abort), wanted: [usize; 4]) {
+        let image = rows_of(rt, &self.disk);
+        let answer = self.client.ask(image.as_slice(), None);
+        let plan = &self.client.plan;
+        equal(rt, (answer, plan.counts()), (Ok(plan.used), wanted));
+        let is_done = carry_out(&mut self.disk, plan, &[], 0, plan.used);
+        expect(rt, is_done, "an opening that can't be carried out");
+    }
+
+    /// The byte that fills a page.
+    fn byte_of(&mut self, rt: &(impl AllocGlobal + Abort), page: u32) -> Option<u8> {
+        let image = rows_of(rt, &self.disk);
+        let place = FilePage { file: 0, page };
+        let byte = self.client.byte_of(image.as_slice(), place, PAGES * 4096);
+        byte.expect(rt, "a page")
+    }
+}
+
+/// The first pages of the file, in rising order.
+fn first_pages(rt: &(impl AllocGlobal + Abort), count: u32) -> Vec<FilePage> {
+    let mut pages = Vec::new(rt.alloc());
+    for page in 0..count {
+        pages.push(FilePage { file: 0, page }).expect(rt, "memory");
+    }
+    pages
+}
+
+// Maps have three blocks, and 1,100 slots are named in the third one too. A block takes eight rows, and the gate one.
+#[test]
+fn each_page_in_rising_order_takes_a_call(rt: HostRuntime) {
+    let mut bench = Bench::new(&rt, 3);
+    bench.open(&rt, [0; 4]);
+    let pages = first_pages(&rt, PAGES);
+    let bytes = Vec::from_elem(rt.alloc(), [9; 4096], pages.len()).expect(&rt, "memory");
+    bench.commit(&rt, pages.as_slice(), bytes.as_slice(), [25, 2, 1100, 0]);
+    equal(&rt, bench.byte_of(&rt, 1099), Some(9));
+    // An opening writes the map anew.
+    bench.open(&rt, [25, 2, 0, 0]);
+    let page = FilePage { file: 0, page: 555 };
+    bench.commit(&rt, &[page], &[[8; 4096]], [25, 2, 1, 0]);
+    equal(&rt, bench.byte_of(&rt, 555), Some(8));
+    equal(&rt, bench.byte_of(&rt, 1099), Some(9));
+}
+
+// Each is written by eight calls, with a row each.
+#[test]
+fn pages_in_another_order_take_rows(rt: HostRuntime) {
+    let mut bench = Bench::new(&rt, 1);
+    let [low, high] = [3, 5].map(|page| FilePage { file: 0, page });
+    bench.commit(&rt, &[high, low], &[[5; 4096], [3; 4096]], [25, 2, 0, 0]);
+    equal(&rt, bench.byte_of(&rt, 3), Some(3));
+    equal(&rt, bench.byte_of(&rt, 5), Some(5));
+}
+
+// A body has 504 slots: after 1,000 pages the next commit has all others of them copied home. Maps have one block of slots.
+#[test]
+fn pages_go_home_in_a_call_each(rt: HostRuntime) {
+    let mut bench = Bench::new(&rt, 1);
+    let pages = first_pages(&rt, 1000);
+    let bytes = Vec::from_elem(rt.alloc(), [7; 4096], 1000).expect(&rt, "memory");
+    bench.commit(&rt, pages.as_slice(), bytes.as_slice(), [9, 2, 1000, 0]);
+    let first = first_pages(&rt, 2);
+    bench.commit(
+        &rt,
+        first.as_slice(),
+        &[[0; 4096], [6; 4096]],
+        [9, 2, 2, 998],
+    );
+    for (page, byte) in [(0, 0), (1, 6), (2, 7), (999, 7), (1000, 0)] {
+        equal(&rt, bench.byte_of(&rt, page), Some(byte));
+    }
+}

@@ -1,0 +1,40 @@
+-- A store of which nothing is unsynced, taken up as it stands.
+use Rattle.std.specs.Prelude.{ℕ, ◌≡◌, true}
+use Rattle.disk_model.specs.Moments.{Touches, Nothing, LeavesNow}
+use Rattle.disk_model.specs.Stop.{Image}
+use Rattle.disk_model.specs.declared.sector_disk.SectorDisk.{Ghosts}
+use Rattle.sync_journal.specs.Resuming.{IsLiveAsNamed}
+use Rattle.pool_journal.specs.{Pools.{pool_named}, Recovering.{GivesAsNamed}}
+use Rattle.file_store.specs.Standing.{AreBounded}
+use Rattle.stores.specs.Images.{is_pool, most_pages, free_pages, IsBadLayout, IsBadJournal, StandsAs}
+use Rattle.stores.specs.Opened.{RunsOpening}
+use Rattle.stores.specs.Store.{StoreKept, StoreKept.{OfJournals, OfPool}, disk_of, kept_of, files_of, free_of, always_free_in, IsReadyStore}
+use Rattle.stores.specs.declared.store.Store.{Store}
+
+-- The journal is as the gate of this image has it: of layouts 2 and 3 what stands in it alone is what the journal that the gate names names; of a pool it has
+-- the map that the gate names.
+abbrev pub IsAsNamed : StoreKept → Image → Type 0
+IsAsNamed (OfJournals directory journal) image = IsLiveAsNamed journal image
+IsAsNamed (OfPool directory journal) image = (journal.second ≡ pool_named image) × GivesAsNamed journal.sizes journal.map image
+
+module _ {D : Type 0} (g : Ghosts D) where
+  -- The store on a device is taken up as it stands:
+  pub record ResumesFrom (old : D) (store : Store D) : Type 0 where
+    -- no more is done than by an opening, and of a pool nothing is written;
+    pub run : RunsOpening g old (disk_of store)
+    pub open run use *
+    pub pool_unwritten : g.keeps_model (disk_of store) → is_pool (g.content old) ≡ true → Touches g Nothing old (disk_of store)
+    -- it may be read and committed to, and its files' numbers and lengths are in their bounds;
+    pub ready : IsReadyStore g store
+    pub bounded : AreBounded (files_of store)
+    -- its image is that of a store, and stands for what it did, from now on, with nothing unsynced;
+    pub good_layout : g.keeps_model (disk_of store) → IsBadLayout (g.sector_count old) (g.content old) → ⊥
+    pub good_journal : g.keeps_model (disk_of store) → IsBadJournal (g.sector_count old) (g.content old) → ⊥
+    pub now : g.keeps_model (disk_of store) → LeavesNow g (disk_of store) (StandsAs (g.sector_count old) (g.content old))
+    pub synced : g.keeps_model (disk_of store) → (k : ℕ) → g.unsynced (disk_of store) k → ⊥
+    -- the next commit goes on from what its gate names, and it and every other one may take as many pages as the image says;
+    pub named : g.keeps_model (disk_of store) → IsAsNamed (kept_of store) (g.content old)
+    pub free : g.keeps_model (disk_of store) → free_of store ≡ free_pages (g.sector_count old) (g.content old)
+    pub most : g.keeps_model (disk_of store) → always_free_in (kept_of store) ≡ most_pages (g.sector_count old) (g.content old)
+    -- and the device did not fail.
+    pub calm : g.failures (disk_of store) ≡ g.failures old

@@ -1,0 +1,193 @@
+//! Stores of layouts 2 and 3 made anew in layout 4. Their bytes are worked out by hand.
+use crate::bench::{byte, equal, expect, holds, left, opened, opens, put, repeated, sector_with};
+use crate::old_stores::{FIRST, LAST, LOCKED, PLACES, Place, committed, old_store};
+use disk_model::{SectorDisk, SimDisk};
+use file_store::UpgradeFault;
+use std::alloc::Global;
+use std::process::Abort;
+use std::test::Fail;
+use sync_journal::Journals;
+use upgrades::upgrade;
+use vm_types::FileInfo;
+
+/// The first home of the new store, with maps of one block, as the format has it; then its sectors, with a directory of 4 pages and 3 pages of files.
+const HOMES: u64 = 16 + 8080;
+
+const SECTORS: u64 = HOMES + 8 * (4 + 3);
+
+/// How many writes an upgrade makes: a block of a map, the gate, the directory, the pages, the kind, and the mark.
+const WRITES: u64 = 8 + 1 + 32 + 24 + 1 + 1;
+
+/// Upgrades a store that was committed to: what it tells, and the new device. The old one is not written.
+fn upgraded(
+    alloc: Global,
+    place: &Place,
+    old_call: u64,
+    new_write: u64,
+) -> Result<(Result<(), UpgradeFault>, SimDisk), Fail> {
+    let mut old = committed(alloc, place)?;
+    old.fail_at(old_call);
+    let mut new = SimDisk::new(alloc, SECTORS)?;
+    new.stop_at(new_write);
+    let (old, told) = upgrade(old, &mut new, 1);
+    expect(old.writes() == 0, "the old device is written")?;
+    Ok((told, new))
+}
+
+#[test]
+fn a_new_store_is_made_byte_for_byte(rt: HostRuntime) -> Result<(), Fail> {
+    for place in PLACES {
+        let (told, new) = upgraded(rt.alloc(), &place, 0, 0)?;
+        equal(&rt, told, Ok(()));
+        equal(&rt, (new.writes(), new.syncs()), (WRITES, 3));
+        // Of files 0, 5 and 63 flags, extents, length, and the one extent.
+        let first = [(0, 1), (4, 1), (8, 1), (9, 0x10), (16, 4), (20, 2)];
+        let locked = [(256, 3), (260, 1), (264, 3), (272, 6), (276, 1)];
+        let wanted = [
+            (0, mark(4)),
+            (8, [0; 512]),
+            (HOMES, sector_with(&first)),
+            (HOMES + 2, sector_with(&locked)),
+            (HOMES + 31, sector_with(&[(256, 1)])),
+            (HOMES + 32, [b'x'; 512]),
+            (HOMES + 48, sector_with(&[(0, b'c'), (1, b'c'), (2, b'c')])),
+        ];
+        expect(holds(&new, &wanted), "the new device")?;
+    }
+    Ok(())
+}
+
+#[test]
+fn a_new_store_has_the_files_and_pages_of_the_old_one(rt: HostRuntime) -> Result<(), Fail> {
+    for place in PLACES {
+        let (_, new) = upgraded(rt.alloc(), &place, 0, 0)?;
+        let mut store = opened(rt.alloc(), left(rt.alloc(), &new, None)?)?;
+        let facts = |length, read_only| Some(FileInfo { length, read_only });
+        let infos = [
+            (0, facts(4097, false)),
+            (1, None),
+            (5, facts(3, true)),
+            (62, None),
+            (63, facts(0, false)),
+        ];
+        for (n, info) in infos {
+            equal(&rt, store.file(n), info);
+        }
+        let last = match place.journals {
+            Journals::Single => b'b',
+            Journals::Paired => b'y',
+        };
+        equal(&rt, byte(&mut store, FIRST, 4096)?, b'x');
+        equal(&rt, byte(&mut store, LAST, 1)?, last);
+        equal(&rt, byte(&mut store, LOCKED, 3)?, b'c');
+    }
+    Ok(())
+}
+
+/// What an old store is like that cannot be upgraded, or the device of the new one: sectors of the old one, how many sectors the new one has, the layout of its
+/// mark, and the fault.
+type Refusal = ([(u64, [u8; 512]); 3], u64, u8, UpgradeFault);
+
+/// The sector of a mark.
+fn mark(layout: u8) -> [u8; 512] {
+    let digit = b'0' + layout % 10;
+    repeated(&[b'F', b'A', b'M', b'S', b'Y', b'N', b'C', digit])
+}
+
+/// Each has what the faults behind its own ask for too: the first of them is to be told.
+fn refusals(place: &Place) -> [Refusal; 11] {
+    // Of layout 2 the map counts where the gate is open. It names home 0 twice.
+    let gate = match place.journals {
+        Journals::Single => (2, repeated(b"GATEOPEN")),
+        Journals::Paired => (16, [0; 512]),
+    };
+    let twice = (place.map, sector_with(&[(0, 2)]));
+    let past_the_last = sector_with(&[(0, 3), (3, 0x80), (4, 1)]);
+    let directory = (place.directory, past_the_last);
+    let same = (place.homes, [0; 512]);
+    let (few, fewer) = (SECTORS - 8, HOMES + 31);
+    [
+        // No mark, that of layout 1 and of layout 4, and a file in a home that the device hasn't.
+        (
+            [gate, twice, (0, [0; 512])],
+            few,
+            1,
+            UpgradeFault::OldLayout,
+        ),
+        ([gate, twice, (0, mark(1))], few, 1, UpgradeFault::OldLayout),
+        ([gate, twice, (0, mark(4))], few, 1, UpgradeFault::OldLayout),
+        ([gate, twice, directory], few, 1, UpgradeFault::OldLayout),
+        ([gate, twice, same], few, 1, UpgradeFault::OldJournal),
+        // No room for the last page, and none for the directory.
+        ([same, same, same], few, 1, UpgradeFault::NewSmall),
+        ([same, same, same], fewer, 1, UpgradeFault::NewSmall),
+        ([same, same, same], SECTORS, 1, UpgradeFault::Formatted),
+        ([same, same, same], SECTORS, 2, UpgradeFault::Formatted),
+        ([same, same, same], SECTORS, 3, UpgradeFault::Formatted),
+        ([same, same, same], SECTORS, 4, UpgradeFault::Formatted),
+    ]
+}
+
+/// Sees that an old store with these changes is refused so, and nothing is written.
+fn expect_refusal(
+    rt: &(impl AllocGlobal + Abort),
+    place: &Place,
+    refusal: Refusal,
+) -> Result<(), Fail> {
+    let (changes, sectors, layout, fault) = refusal;
+    let old = old_store(rt.alloc(), place, &changes)?;
+    let mut new = SimDisk::new(rt.alloc(), sectors)?;
+    put(&mut new, 0, &mark(layout))?;
+    let (old, told) = upgrade(old, &mut new, 1);
+    equal(rt, told, Err(fault));
+    equal(rt, (old.writes(), new.writes()), (0, 1));
+    Ok(())
+}
+
+#[test]
+fn refuses_what_cannot_be_upgraded(rt: HostRuntime) -> Result<(), Fail> {
+    for place in PLACES {
+        for refusal in refusals(&place) {
+            expect_refusal(&rt, &place, refusal)?;
+        }
+    }
+    Ok(())
+}
+
+#[test]
+fn a_stopped_upgrade_leaves_no_mark_or_the_whole_store(rt: HostRuntime) -> Result<(), Fail> {
+    let alloc = rt.alloc();
+    let pool = mark(4);
+    // The first and the last of block, gate, directory and pages, the kind and the mark.
+    for write in [1, 9, 41, 65, 66, WRITES] {
+        let (told, new) = upgraded(alloc, &PLACES[0], 0, write)?;
+        equal(&rt, told, Err(UpgradeFault::NewDevice));
+        let fills = [None, Some([0; 512]), Some(pool), Some(mark(2))];
+        for fill in fills {
+            let image = left(alloc, &new, fill)?;
+            let marked = write == WRITES && fill == Some(pool);
+            equal(&rt, holds(&image, &[(0, pool)]), marked);
+            equal(&rt, opens(alloc, image), marked);
+        }
+    }
+    Ok(())
+}
+
+#[test]
+fn a_fault_names_the_device_that_failed(rt: HostRuntime) -> Result<(), Fail> {
+    for place in PLACES {
+        // Kind, mark and directory are read; of layout 2 an open gate, its map and three pages; of layout 3 there is a sync, and mark and kind are
+        // read once more.
+        let calls = match place.journals {
+            Journals::Single => 1 + 2 + 1 + 8 + 24,
+            Journals::Paired => 1 + 1 + 3 + 1 + 8 + 24,
+        };
+        for call in [1, 2, 3, 4, 5, 6, 12, 13, calls] {
+            let (told, _) = upgraded(rt.alloc(), &place, call, 0)?;
+            equal(&rt, told, Err(UpgradeFault::OldDevice));
+        }
+        let (told, _) = upgraded(rt.alloc(), &place, calls + 1, 0)?;
+        equal(&rt, told, Ok(()));
+    }
+    Ok(())
+}

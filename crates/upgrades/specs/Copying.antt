@@ -1,0 +1,36 @@
+-- Pages are copied from the old store to the device of the new one.
+use Rattle.std.specs.Prelude.{ℕ, ◌<◌, ◌≤◌, Result, OnOk}
+use Rattle.disk_model.specs.Stop.{Image, NamesOnce}
+use Rattle.disk_model.specs.declared.sector_disk.SectorDisk.{Ghosts}
+use Rattle.directories.specs.Kinds.{IsKind}
+use Rattle.file_store.specs.{Blocks.{KindBehind, KindLast}, Format.{IsFrom}, Upgraded.{CopiesPages}}
+use Rattle.file_store.specs.declared.faults.UpgradeFault.{UpgradeFault}
+use Rattle.pool_store.specs.Format.{new_pages}
+use Rattle.upgrades.specs.Old.{StaysOld, disk_of}
+use Rattle.upgrades.specs.declared.old_files.OldFiles.{OldFiles}
+
+-- a sector from one on and before another
+abbrev pub IsBetween : ℕ → ℕ → ℕ → Type 0
+IsBetween start end k = (start ≤ k) × (k < end)
+
+module _ {D E T : Type 0} (g : Ghosts D) (h : Ghosts E) where
+  -- Pages of the old store are copied:
+  pub record CopiesOld (Read Written : ℕ → Type 0) (old old' : OldFiles D) (new new' : E) (result : Result T UpgradeFault) : Type 0 where
+    -- it stays as it is,
+    pub stays : StaysOld g old old'
+    -- of the devices no sectors are read and written but these,
+    pub copies : CopiesPages g h Read Written (disk_of old) (disk_of old') new new' result
+    pub open copies use *
+    -- and of the new one none is asked for twice.
+    pub once : NamesOnce Written (h.asked new) (h.asked new')
+
+module _ {D T E : Type 0} (g : Ghosts D) where
+  -- All of a new store but the mark is written and synced:
+  pub record WritesKindLast (m : ℕ) (Q : Image → Type 0) (old new : D) (result : Result T E) : Type 0 where
+    -- first what lies outside the block of the mark, which has Q when it is synced, and then the kind, or not so far yet;
+    pub epochs : KindLast g (IsFrom 8) Q old new
+    -- after Ok so far,
+    pub kind_behind : OnOk result (KindBehind g (IsFrom 8) Q old new)
+    pub kind : OnOk result (IsKind m new_pages (g.content new 1))
+    -- and nothing is unsynced.
+    pub synced : OnOk result ((k : ℕ) → g.unsynced new k → ⊥)

@@ -1,0 +1,5 @@
+pub mod Old
+pub mod Finding
+pub mod NewPool
+pub mod Copying
+pub mod Upgraded

@@ -1,0 +1,101 @@
+//! Stores of layout 2 or 3, made anew in layout 4.
+ghost use Rattle.std.specs.Prelude.{◌≡◌, ◌<◌, OnOk, IsErrOf};
+ghost use Rattle.disk_model.specs.{Moments.{Nothing}, Stop.{NamesOnce}};
+ghost use Rattle.directories.specs.Kinds.{IsMapSize};
+ghost use Rattle.sync_journal.specs.{Runs.{RunsOnDevice}, Steps.{SyncsInto}};
+ghost use Rattle.file_store.specs.{Format.{IsMarkSector}, Layout.{IsMark, pool_mark}, Standing.{IsBadJournal, IsBadLayout}, Upgraded.{HasCheckCauses}};
+ghost use Rattle.upgrades.specs.NewPool.{files_in, HasRoomFor, IsTooSmall};
+ghost use Rattle.upgrades.specs.Old.{disk_of, IsReadable};
+ghost use Rattle.upgrades.specs.Upgraded.{UpgradesToPool};
+
+use crate::old_files::OldFiles;
+use crate::places::has_room;
+use crate::writing::write_unmarked;
+use disk_model::{DiskFault, SECTOR_BYTES, SectorDisk};
+use file_store::{MARK_SECTOR, UpgradeFault, is_any_mark, pool_mark};
+use pool_journal::PoolSizes;
+use vm_types::{FILES, FileInfo};
+
+/// Makes a store of layout 4 on `new`, with maps of `blocks` blocks, 1 to 2,048, and a directory of 4 pages, that stands for what the store of layout 2
+/// or 3 on `old` stands for. Each file keeps its number, its length and whether it may only be read; its pages are one extent, none of an empty file, in
+/// the order of the files' numbers, with zeros past the file's end. The pool is empty. `old` is only read, and given back. Pool, directory and homes are
+/// written and synced before the kind is, and the kind before the mark, so that a stop leaves an image without the mark or the whole store.
+///
+/// # Errors
+///
+/// They are looked for in this order: `OldLayout`, where the image of `old` has no layout 2 or 3; `OldJournal`, where its journal is open with a map that no
+/// commit writes; `NewSmall`, where `new` has fewer than `16 + 8080 blocks + 32` sectors, or not as many homes behind the directory as the files have
+/// pages; and `Formatted`, where sector 0 of `new` is the mark of any layout. These come exactly where they say, unless a device fails first, and nothing was
+/// written then. `OldDevice` and `NewDevice` come exactly where that device failed.
+pub fn upgrade<D: SectorDisk, E: SectorDisk>(
+    old: D,
+    new: &mut E,
+    blocks: u32,
+) -> (D, Result<(), UpgradeFault>)
+    requires { IsMapSize blocks }
+    ensures { UpgradesToPool D.SectorDisk E.SectorDisk blocks old result.0 new.old new.new result.1 }
+{
+    match OldFiles::find(old) {
+        Ok(files) => {
+            let mut files = files;
+            let result = copy_store(&mut files, new, blocks);
+            (files.into_disk(), result)
+        }
+        Err((fault, old)) => (old, Err(UpgradeFault::from(fault))),
+    }
+}
+
+/// The same of a store that was found.
+fn copy_store<D: SectorDisk, E: SectorDisk>(
+    old: &mut OldFiles<D>,
+    new: &mut E,
+    blocks: u32,
+) -> Result<(), UpgradeFault>
+    requires maps { IsMapSize blocks }
+    requires ready { IsReadable D.SectorDisk old.old }
+    requires good_layout { D.keeps_model (disk_of old.old) → IsBadLayout (D.sector_count (disk_of old.old)) (D.content (disk_of old.old)) → ⊥ }
+    requires good_journal { D.keeps_model (disk_of old.old) → IsBadJournal (D.sector_count (disk_of old.old)) (D.content (disk_of old.old)) → ⊥ }
+    ensures { UpgradesToPool D.SectorDisk E.SectorDisk blocks (disk_of old.old) (disk_of old.new) new.old new.new result }
+{
+    let files = old.files();
+    check_new(new, blocks, &files)?;
+    let sizes = PoolSizes::of(blocks, new.sectors());
+    write_unmarked(old, new, sizes, &files)?;
+    write_mark(new)?;
+    Ok(())
+}
+
+/// Refuses a device that is too small for these files, or has a mark.
+fn check_new<E: SectorDisk>(
+    new: &mut E,
+    blocks: u32,
+    files: &[Option<FileInfo>; FILES],
+) -> Result<(), UpgradeFault>
+    requires { IsMapSize blocks }
+    ensures run { RunsOnDevice E.SectorDisk Nothing new.old new.new }
+    ensures once { NamesOnce IsMarkSector (E.asked new.old) (E.asked new.new) }
+    ensures causes { HasCheckCauses (E.failures new.old) (E.failures new.new) result }
+    ensures room { (IsErrOf result UpgradeFault.NewSmall → ⊥) → HasRoomFor blocks (E.sector_count new.old) (files_in files.now) }
+    ensures small { IsErrOf result UpgradeFault.NewSmall → IsTooSmall blocks (E.sector_count new.old) (files_in files.now) }
+    ensures marked { E.keeps_model new.new → IsErrOf result UpgradeFault.Formatted → IsMark (E.content new.old 0) }
+    ensures unmarked { E.keeps_model new.new → OnOk result (IsMark (E.content new.old 0) → ⊥) }
+{
+    if !has_room(blocks, new.sectors(), files) {
+        return Err(UpgradeFault::NewSmall);
+    }
+    let mut sector = [0; SECTOR_BYTES];
+    new.read(MARK_SECTOR, &mut sector)?;
+    if is_any_mark(&sector) {
+        return Err(UpgradeFault::Formatted);
+    }
+    Ok(())
+}
+
+/// Writes the mark, and syncs.
+fn write_mark<E: SectorDisk>(new: &mut E) -> Result<(), DiskFault>
+    requires { 0 < E.sector_count new.old }
+    ensures { SyncsInto E.SectorDisk IsMarkSector IsMarkSector (E.content new.new 0 ≡ pool_mark) new.old new.new result }
+{
+    new.write(MARK_SECTOR, pool_mark())?;
+    new.sync()
+}
