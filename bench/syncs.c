@@ -1,10 +1,9 @@
 /*
- * The same bytes made durable without Kefsdalv, to compare with: syncs plain|turns|apart|mapped FILE PAGES COUNT.
+ * The same bytes made durable without Kefsdalv, to compare with: syncs plain|slots|mapped FILE PAGES COUNT.
  *
  * plain   COUNT times what an msync of PAGES pages writes in layout 2 once a journal is live, by plain calls: the homes, a sync, the gate closed, a
  *         sync, the body and the map, a sync, the gate opened, a sync. It reads nothing back and checks nothing.
- * turns   the same in layout 3, of the same pages each time: the body and the map of the journal whose turn it is, a sync, the gate, a sync.
- * apart   the same in layout 3, of other pages than the time before, which are copied home in the first of the two syncs.
+ * slots   the same in layout 4, of the same pages each time: slots of the body whose turn it is, the blocks of its map that count, a sync, the gate, a sync.
  * mapped  COUNT times a byte stored to each of PAGES pages of a mapped file, and msync(MS_SYNC) over them. A stop may tear it.
  */
 #include <fcntl.h>
@@ -16,7 +15,7 @@
 #include <unistd.h>
 
 enum { SECTOR = 512, PAGE = 4096, GATE = 2, MAP = 3, BODY = 11, HOMES = 8195, MOST = 1023 };
-enum { TURN_GATE = 16, TURN_MAP = 24, TURN_SECTORS = 8192, TURN_HOMES = 16408 };
+enum { POOL_GATE = 8, POOL_FRONT = 16, BLOCKS = 4, BLOCK_SLOTS = 504, HALF = 4040 * BLOCKS }; /* a pool of 4,032 pages */
 
 static char page[PAGE];
 
@@ -48,15 +47,15 @@ static void plain(int file, int pages, int count) {
     }
 }
 
-static void in_turn(int file, int pages, int count, int is_apart) {
+static void in_slots(int file, int pages, int count) {
+    int blocks = (pages + BLOCK_SLOTS - 1) / BLOCK_SLOTS;
     for (int turn = 0; turn < count; turn++) {
-        off_t map = TURN_MAP + turn % 2 * TURN_SECTORS;
+        off_t map = POOL_FRONT + turn % 2 * HALF, body = map + 8 * BLOCKS;
         memset(page, turn, sizeof page);
-        for (int k = 0; k < pages; k++) put(file, PAGE, map + 8 + 8 * k);
-        put(file, PAGE, map);
-        for (int k = 0; k < pages && is_apart; k++) put(file, PAGE, TURN_HOMES + 8 * (turn % 2 * MOST + k));
+        for (int k = 0; k < pages; k++) put(file, PAGE, body + 8 * k);
+        for (int q = 1; q <= blocks; q++) put(file, PAGE, body - 8 * q);
         settle(file);
-        put(file, SECTOR, TURN_GATE);
+        put(file, SECTOR, POOL_GATE);
         settle(file);
     }
 }
@@ -74,14 +73,13 @@ static void mapped(int file, int pages, int count) {
 int main(int argc, char **argv) {
     int pages = argc == 5 ? atoi(argv[3]) : 0, count = argc == 5 ? atoi(argv[4]) : 0;
     if (pages < 1 || pages > MOST || count < 1) {
-        fputs("usage: syncs plain|turns|apart|mapped FILE PAGES COUNT\n", stderr);
+        fputs("usage: syncs plain|slots|mapped FILE PAGES COUNT\n", stderr);
         return 2;
     }
     int file = open(argv[2], O_RDWR | O_CREAT, 0600);
-    if (file < 0 || ftruncate(file, (off_t)SECTOR * (TURN_HOMES + 16 * MOST)) != 0 || fsync(file) != 0) fail(argv[2]);
+    if (file < 0 || ftruncate(file, (off_t)SECTOR * (POOL_FRONT + 2 * HALF)) != 0 || fsync(file) != 0) fail(argv[2]);
     if (strcmp(argv[1], "plain") == 0) plain(file, pages, count);
-    else if (strcmp(argv[1], "turns") == 0) in_turn(file, pages, count, 0);
-    else if (strcmp(argv[1], "apart") == 0) in_turn(file, pages, count, 1);
+    else if (strcmp(argv[1], "slots") == 0) in_slots(file, pages, count);
     else mapped(file, pages, count);
     return 0;
 }

@@ -13,7 +13,7 @@ enum {
   FAMSYNC_TURN = 1,        /* another call's turn: see the states */
   FAMSYNC_BAD_LAYOUT = 2,  /* the image has no layout of a store */
   FAMSYNC_BAD_JOURNAL = 3, /* its journal is open with a map that no commit writes */
-  FAMSYNC_BAD_PAGES = 4,   /* no page, more than the store takes (1,023, or of layout 4 as many as slots are free), one twice, one outside
+  FAMSYNC_BAD_PAGES = 4,   /* no page, more than the store takes (1,023, or of layout 4 as many as its pool has slots), one twice, one outside
                               of its file; of famsync_length: no such file */
   FAMSYNC_READ_ONLY = 5,   /* the file of a page may only be read */
   FAMSYNC_NO_ROOM = 6,     /* the plan has more calls than the smallest of the rooms that were lent */
@@ -39,7 +39,7 @@ struct famsync_page { uint8_t file; uint32_t page; };
 struct famsync_bytes { const unsigned char *at; };
 
 /* `image` is `sectors` sectors, what the file holds. `calls` and `rows` are room for the plan, `calls_room` calls and `rows_room` rows
-   of 512 bytes, as `scratch_calls` and `scratch_rows` are room to work in. FAMSYNC_ROOM of each suffice for layouts 2 and 3, and
+   of 512 bytes, as `scratch_calls` and `scratch_rows` are room to work in. FAMSYNC_ROOM of each suffice for layout 2, and
    FAMSYNC_ROOM_OF_BLOCK for each block of a map of layout 4, also where all pages are written sector by sector, as one that is
    stored to meanwhile may be; mostly an eighth of that does. After the result 0 the caller makes the first *used calls in their
    order, and then calls famsync_done, or famsync_failed where one failed. Until then the pages of a commit stay where they are, since
@@ -47,6 +47,10 @@ struct famsync_bytes { const unsigned char *at; };
    through in linear time, others in a square. */
 enum { FAMSYNC_ROOM = 16384, FAMSYNC_ROOM_OF_BLOCK = 8192 };
 uint32_t famsync_open(struct famsync_handle *handle, const void *image, size_t sectors, struct famsync_call *scratch_calls,
+                      size_t scratch_calls_room, void *scratch_rows, size_t scratch_rows_room, size_t *used,
+                      struct famsync_call *calls, size_t calls_room, void *rows, size_t rows_room);
+/* Brings home all pages that stand in slots of a pool, so that all slots are free; a commit for which too few are free does so itself. */
+uint32_t famsync_tidy(struct famsync_handle *handle, const void *image, size_t sectors, struct famsync_call *scratch_calls,
                       size_t scratch_calls_room, void *scratch_rows, size_t scratch_rows_room, size_t *used,
                       struct famsync_call *calls, size_t calls_room, void *rows, size_t rows_room);
 uint32_t famsync_commit(struct famsync_handle *handle, const void *image, size_t sectors, struct famsync_call *scratch_calls,

@@ -1,7 +1,8 @@
 /* kefs.h, version 1.1: failure-atomic msync on a program's own memory (Park, Kelly and Shen, "Failure-Atomic msync()",
    EuroSys 2013), over the proved plans of libfamsync.a. An image is one host file that holds up to 64 files of fixed
    lengths, under 2^32 bytes each (docs/FORMATS.md). A program maps some of them, stores to the memory, and commits
-   what it has stored. New images are of layout 4, and those of layouts 2 and 3 are opened too.
+   what it has stored. New images are of layout 4, and those of layout 2 are opened too; one of layout 3 is KEFS_NOT_IMAGE, and
+   `kefscheck upgrade OLD NEW` makes one of layout 4 of it.
 
    After a commit has returned KEFS_OK each page that it took is durable, in all files at once. After a crash or a
    power cut at any moment the files are as after some prefix of the commits, each of them whole, and no commit that
@@ -27,7 +28,8 @@
    Pages are of 4,096 bytes (KEFS_PAGE), from a file's byte 0 on. A dirty page is one that was stored to since it
    was mapped, last committed or rolled back.
 
-   Threads. Calls on one image may come from any threads: a lock of the image takes them one after the other.
+   Threads. Calls on one image may come from any threads: a lock of the image takes them one after the other;
+   kefs_commit_start, and a kefs_commit_wait that joins it, come while another kefs_commit_wait makes its device calls.
    kefs_mark_dirty and kefs_touch do not wait for it, and come only while their bytes are mapped. Calls on different
    images do not wait for each other. Stores to mapped memory may go on during any call but kefs_rollback of the same
    bytes and the kefs_close or kefs_unmap of their file; no call may run beside the kefs_close of its image. Of a page
@@ -73,12 +75,12 @@ extern "C" {
 enum {
   KEFS_PAGE = 4096,       /* bytes of a page */
   KEFS_FILES = 64,        /* files of an image at most, numbered from 0 on */
-  KEFS_MOST_PAGES = 1023  /* pages of one commit at most, of layouts 2 and 3; kefs_stat says how many of any image */
+  KEFS_MOST_PAGES = 1023  /* pages of one commit at most, of layout 2; kefs_stat says how many of any image */
 };
 
 enum kefs_result {
   KEFS_OK = 0,
-  KEFS_NOT_IMAGE = -31001,   /* the host file has no layout of a store: never an image, of layout 1, or damaged */
+  KEFS_NOT_IMAGE = -31001,   /* the host file has no layout of a store: never an image, of layout 1 or 3, or damaged */
   KEFS_BAD_JOURNAL = -31002, /* the image's journal has a map that no commit writes */
   KEFS_BUSY = -31003,        /* another process or handle has the image open, and the wait for it is over */
   KEFS_NO_FILE = -31004,     /* the image has no file of this number, or the file is not mapped where it has to be */
@@ -156,7 +158,7 @@ enum {
   KEFS_SNAPSHOT = 128     /* reads only, beside one writer and any readers: the files as after some commit */
 };
 
-/* KEFS_LAZY. kefs_map reads no page, but of layouts 2 and 3 those of the journal, and memory is taken for the pages that are touched
+/* KEFS_LAZY. kefs_map reads no page, but of layout 2 those of the journal, and memory is taken for the pages that are touched
    alone, and where a commit writes all other pages of a pool home for those that were in it. A system
    call that touches a page that was not read yet fails with EFAULT: kefs_touch reads it before. A handler of SIGBUS
    is installed as that of SIGSEGV is. Where the system has no userfaultfd, and under KEFS_TRACK_SIGNAL,
@@ -208,8 +210,9 @@ struct kefs_options {
    Other results as of kefs_open and, with KEFS_CREATE, of kefs_format. */
 int kefs_open_with(kefs_image **image, const char *path, unsigned flags, const struct kefs_options *options);
 
-/* Unmaps all files and lets the image go; NULL does nothing. What was not committed is lost. The handle is gone
-   whatever is returned: KEFS_OK, or KEFS_FORKED in a child of the process that opened it. */
+/* Unmaps all files and lets the image go; NULL does nothing. What was not committed or started is lost. The handle is gone
+   whatever is returned: KEFS_OK, KEFS_FORKED in a child of the process that opened it, or, where commits were started that are not durable yet, what
+   kefs_commit_wait of them returns. */
 int kefs_close(kefs_image *image);
 
 /* Mapping */
@@ -239,8 +242,8 @@ struct kefs_range { const void *at; size_t length; };
 /* Makes the dirty pages of `count` ranges durable, in all files at once, or all dirty pages where `ranges` is NULL.
    How many they were goes to *taken, where it is not NULL; where there are none, no device call is made. Bytes of a
    range that lie in no mapping count for nothing.
-   KEFS_TOO_MANY: over 1,023 pages, or of layout 4 more than half of the pool's slots and more than are free, which are all but one
-   at most; nothing was done. The way on is to commit fewer ranges at a time, or kefs_rollback. With scan and
+   KEFS_TOO_MANY: over 1,023 pages, or of layout 4 more than the pool has slots; nothing was done. Where more pages are taken than slots are free, the others
+   are brought home first, as by kefs_tidy. The way on is to commit fewer ranges at a time, or kefs_rollback. With scan and
    signal, and of one range or all, pages that are as they are durable are not counted here, though kefs_count_dirty counts them.
    KEFS_READ_ONLY: opened with KEFS_RDONLY or KEFS_SNAPSHOT. EINVAL: `ranges` is NULL and `count` is not 0. ENOMEM: nothing was done.
    ENOSPC, EDQUOT: there is no room on the device, where a file is sparse mostly; nothing was done, the pages are dirty
@@ -249,6 +252,33 @@ struct kefs_range { const void *at; size_t length; };
    KEFS_DEVICE: a device call failed, and the commit is durable, whole, or it is not: kefs_recover says which, and so
    do kefs_close and kefs_open. */
 int kefs_commit(kefs_image *image, const struct kefs_range *ranges, size_t count, size_t *taken);
+
+/* Group commit, of threads that each wait for their own: kefs_commit_start takes the pages, and kefs_commit_wait returns when they are durable. All that was
+   started meanwhile goes as one commit.
+
+   kefs_commit_start copies the dirty pages of these ranges, as kefs_commit takes them, before it returns, and makes no device call; then they are not dirty, and any
+   thread may store to them. Of a page that is stored to during the call, any mix is copied, and the page stays dirty. A program that
+   wants whole transactions holds its own lock over its stores and this call, and not over the wait. *ticket says for what kefs_commit_wait waits: all that was
+   started up to here. Where no page was dirty, that is what was started before. A ticket may be waited for by any thread, by several, more than once, or never.
+
+   After a crash or a power cut at any moment the files are as after some prefix of the commits in the order of their starts, each of them
+   whole, and none is missing whose wait returned KEFS_OK. (A kefs_commit counts as one that is started and waited for.) A page that was started twice goes in its
+   newest form. No thread is made for it: one of those that wait makes the device calls, the others sleep, and starts go on meanwhile. What is started and not
+   waited for becomes durable with the next wait of any ticket of a later start, kefs_commit, kefs_msync, kefs_close, or kefs_map of a file that is not mapped; these
+   commit first what was started. kefs_unmap loses none of it, kefs_count_dirty does not count it, and kefs_rollback goes back to it: to the page
+   as it was started last. Other calls wait until the calls of a commit are over that runs.
+
+   KEFS_TOO_MANY of the start: more pages than kefs_commit may take; they are dirty still. Where they, and those that are started and not durable yet, are together
+   more pages than every commit may take, the start waits for the commit that runs, and makes the others durable itself, before it takes them: then it may have any
+   result of the wait. ENOMEM: nothing was done. Other results of the start as of kefs_commit, but that no device call fails. KEFS_BAD_ARGUMENT: `ticket` is NULL.
+
+   A wait has the results of kefs_commit, and those that went as one have the same one. ENOSPC, EDQUOT, ENOMEM, KEFS_NOT_IMAGE,
+   KEFS_BAD_JOURNAL: none of them is durable, all stay started, and the next wait or commit tries them again, before later ones. KEFS_DEVICE: the image is halted for all
+   threads, and waits for later starts return KEFS_HALTED. kefs_recover says then whether all that went as one is durable (KEFS_AFTER), or nothing of it
+   (KEFS_BEFORE), and it stays started; what was started later stays so too. kefs_close of a halted image loses what is not durable. EINVAL of the wait: a ticket that
+   this image has not given. KEFS_OK also of a halted image, where it is durable. */
+int kefs_commit_start(kefs_image *image, const struct kefs_range *ranges, size_t count, size_t *taken, uint64_t *ticket);
+int kefs_commit_wait(kefs_image *image, uint64_t ticket);
 
 /* The form of msync(2): kefs_commit of one range, or of everything where `at` is NULL. KEFS_BAD_RANGE: the bytes do not
    lie in one mapped file. Other results as of kefs_commit. */
@@ -265,6 +295,12 @@ enum { KEFS_BEFORE = 0, KEFS_AFTER = 1 };
    ENOSPC, EDQUOT, KEFS_DEVICE: the device failed again, and the image stays halted: kefs_recover may be called again.
    KEFS_NOT_IMAGE, KEFS_BAD_JOURNAL: what the device holds is no image any more. ENOMEM. */
 int kefs_recover(kefs_image *image, int *stands);
+
+/* Brings the pages of the image's pool home, where that is of use: at idle, so that the commits that follow write none home. It makes device calls, two syncs among
+   them, and returns when they are over. Dirty pages stay dirty, and what was started stays so. KEFS_OK too where no page is in a slot, and of an image of layout 2; then
+   nothing was done. KEFS_READ_ONLY: opened with KEFS_RDONLY or KEFS_SNAPSHOT. ENOMEM, ENOSPC, EDQUOT, KEFS_NOT_IMAGE: nothing was done, and the image goes on.
+   KEFS_DEVICE: as of kefs_commit; no commit is in doubt. */
+int kefs_tidy(kefs_image *image);
 
 /* How many pages kefs_commit of these ranges would take now: for a program that ends a transaction before it grows too
    large. More than a commit may take is an answer like any other. Of an image that was opened to read it is 0.
@@ -319,16 +355,16 @@ int kefs_backup(kefs_image *image, const char *path, unsigned permissions);
 struct kefs_stat {
   size_t size;              /* in: sizeof (struct kefs_stat), so that a later version may have more fields */
   uint32_t files;           /* how many files the image has */
-  uint32_t most_pages;      /* that every commit may take: 1,023, or of layout 4 half as many as the pool has slots, 2,016 */
+  uint32_t most_pages;      /* that every commit may take: 1,023, or of layout 4 as many as the pool has slots, 4,032 */
   uint64_t pages;           /* home pages of the image, those of no file included */
   uint64_t recovered;       /* pages that the opening brought from the journal to their homes: of layout 4 none */
-  uint64_t commits;         /* since the opening, as are the next three: commits that took a page and returned KEFS_OK */
+  uint64_t commits;         /* since the opening, as are the next three: commits that took a page and returned KEFS_OK; those that went as one count once */
   uint64_t committed_pages; /* pages that they took */
   uint64_t written_bytes;   /* bytes written to the host file */
   uint64_t syncs;           /* syncs of the host file */
   const char *tracker;      /* "scan", "signal" or "caller"; "none" of an image that was opened to read */
   uint32_t lazy;            /* 1 where pages are read when they are first touched, else 0 */
-  uint32_t layout;          /* 2, 3 or 4, of docs/FORMATS.md */
+  uint32_t layout;          /* 2 or 4, of docs/FORMATS.md */
 };
 
 /* Says facts of the image. EINVAL: `size` is less than that of version 1.0. */

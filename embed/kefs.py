@@ -28,7 +28,7 @@ import weakref
 from typing import NamedTuple
 
 RDONLY, NOWAIT, TRACK_SCAN, TRACK_SIGNAL, TRACK_CALLER, LAZY, SNAPSHOT = 1, 2, 4, 8, 16, 32, 128
-PAGE, MOST_PAGES = 4096, 1023  # of one commit of layouts 2 and 3; stat() says how many of any image
+PAGE, MOST_PAGES = 4096, 1023  # of one commit of layout 2; stat() says how many of any image
 BEFORE, AFTER = 0, 1
 _CREATE = 64
 
@@ -135,9 +135,12 @@ _CALLS = {
     "kefs_unmap": (ctypes.c_void_p, ctypes.c_uint),
     "kefs_length": (ctypes.c_void_p, ctypes.c_uint, ctypes.c_void_p),
     "kefs_commit": (ctypes.c_void_p, ctypes.c_void_p, ctypes.c_size_t, ctypes.c_void_p),
+    "kefs_commit_start": (ctypes.c_void_p, ctypes.c_void_p, ctypes.c_size_t, ctypes.c_void_p, ctypes.c_void_p),
+    "kefs_commit_wait": (ctypes.c_void_p, ctypes.c_uint64),
     "kefs_count_dirty": (ctypes.c_void_p, ctypes.c_void_p, ctypes.c_size_t, ctypes.c_void_p),
     "kefs_rollback": (ctypes.c_void_p, ctypes.c_void_p, ctypes.c_size_t),
     "kefs_recover": (ctypes.c_void_p, ctypes.c_void_p),
+    "kefs_tidy": (ctypes.c_void_p,),
     "kefs_refresh": (ctypes.c_void_p, ctypes.c_void_p),
     "kefs_backup": (ctypes.c_void_p, ctypes.c_char_p, ctypes.c_uint),
     "kefs_mark_dirty": (ctypes.c_void_p, ctypes.c_void_p, ctypes.c_size_t),
@@ -295,7 +298,8 @@ def _leave_parent():
     """In a child of os.fork: zeros take the place of the mapped memory, where a view that lives may look."""
     libc = _libc()
     for image in list(_images):
-        image._lock = threading.RLock()
+        image._lock, image._waits = threading.RLock(), 0
+        image._idle = threading.Condition(image._lock)
         for mapped in image._mapped.values():
             if mapped.at:
                 fixed, closed = mmap.MAP_PRIVATE | mmap.MAP_ANONYMOUS | 0x4000 | 0x10, mmap.PROT_READ | mmap.PROT_WRITE  # MAP_NORESERVE, MAP_FIXED
@@ -308,11 +312,12 @@ os.register_at_fork(after_in_child=_leave_parent)
 
 
 class Image:
-    """An open image. It is closed by close(), or at the end of a `with`. Threads may share it: a call waits for the one before."""
+    """An open image. It is closed by close(), or at the end of a `with`. Threads may share it: a call waits for the one before, but not for that of Started.wait()."""
 
     def __init__(self, path, flags=0, wait=0, create=None, permissions=0o600, pool=0):
         handle, options = ctypes.c_void_p(), _Options(size=ctypes.sizeof(_Options), wait=wait, permissions=permissions, pool=pool)
         self._handle, self._mapped, self._lock, self._wait = None, {}, threading.RLock(), wait
+        self._waits, self._idle = 0, threading.Condition(self._lock)  # threads that wait for commits, beside other calls
         end = time.monotonic() + wait / 1000
         if create is not None:
             array, flags = _array(create), flags | _CREATE
@@ -373,6 +378,28 @@ class Image:
         """Makes the dirty pages of these memoryviews durable, all at once, or all dirty pages where none is given. Returns how many."""
         return self._counted("kefs_commit", ranges)
 
+    def commit_start(self, *ranges):
+        """Takes the dirty pages of these memoryviews, or all of them, as they are now: a Started, whose wait() returns when they are durable. All that threads have
+        started meanwhile goes as one commit."""
+        count, ticket = ctypes.c_size_t(), ctypes.c_uint64()
+        self._call("kefs_commit_start", *_ranges(ranges), ctypes.byref(count), ctypes.byref(ticket))
+        return Started(self, ticket.value, count.value)
+
+    def _commit_wait(self, ticket):
+        with self._lock:
+            if self._handle is None:
+                raise ValueError("the image is closed")
+            at = self._handle.at
+            self._waits += 1
+        try:
+            result = _library().kefs_commit_wait(at, ticket)
+            message = "" if result in (0, Forked.result) else _library().kefs_errmsg(at).decode(errors="replace")
+        finally:
+            with self._idle:
+                self._waits -= 1
+                self._idle.notify_all()
+        _check(result, message)
+
     def count_dirty(self, *ranges):
         """How many pages a commit of these ranges would take now."""
         return self._counted("kefs_count_dirty", ranges)
@@ -386,6 +413,10 @@ class Image:
         stands = ctypes.c_int()
         self._call("kefs_recover", ctypes.byref(stands))
         return stands.value
+
+    def tidy(self):
+        """Brings the pages of the image's pool home, so that the commits that follow write none home. Dirty pages stay dirty."""
+        self._call("kefs_tidy")
 
     def refresh(self):
         """Of an image that was opened with SNAPSHOT: brings its views to what the newest commit has left, and says whether a byte of them may
@@ -425,9 +456,10 @@ class Image:
         return {**found, "tracker": facts.tracker.decode(), "lazy": bool(facts.lazy)}
 
     def close(self):
-        """Lets the image go. What was not committed is lost. It may come again. BufferError: a view that was made of a memoryview of map()
+        """Lets the image go, when no thread waits for a commit and what was started is durable. What was not committed is lost. It may come again. BufferError: a view that was made of a memoryview of map()
         is in use, as a slice or an array; the image stays open then."""
-        with self._lock:
+        with self._idle:
+            self._idle.wait_for(lambda: self._waits == 0)
             if self._handle is None:
                 return
             self._release(list(self._mapped))
@@ -445,6 +477,17 @@ class Image:
 
     def __exit__(self, *_):
         self.close()
+
+
+class Started:
+    """A commit that commit_start() began, of `pages` pages. wait() may come again, and from any thread."""
+
+    def __init__(self, image, ticket, pages):
+        self._image, self._ticket, self.pages = image, ticket, pages
+
+    def wait(self):
+        """Returns when it is durable, and all that was started before it."""
+        self._image._commit_wait(self._ticket)
 
 
 class _Buffer(ctypes.Structure):

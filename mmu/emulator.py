@@ -41,7 +41,7 @@ def compiled(source, folder):
 
 
 def pagefmt(verb, path, specs):
-    """An image of these files, by pagefmt: of layout 3 with the verb `new3`."""
+    """An image of these files, by pagefmt: of layout 4 with the verb `new4`."""
     subprocess.run([built(["pagefmt"]).path("pagefmt"), verb, path, *specs], check=True)
 
 

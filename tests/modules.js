@@ -1,7 +1,8 @@
 // node modules.js FOLDER <REQUESTS: tests/web asks it for runs of the modules in FOLDER, a request a line in JSON, each answered by one. LIE=1 has a disk whose reads give what the file held at first.
 "use strict";
 const fs = require("fs"), { createHash } = require("crypto"), { createInterface } = require("readline");
-const Kefs = require("../web/kefs.js"), Trace = require("../web/trace.js"), Draw = require("../web/draw.js"), Cuts = require("../web/cuts.js"), KefsFile = require("../web/kefs_file.js"), { moduleOf } = require("./program.js");
+const Kefs = require("../web/kefs.js"), Trace = require("../web/trace.js"), Draw = require("../web/draw.js"), Cuts = require("../web/cuts.js"), Runs = require("../web/runs.js");
+const KefsFile = require("../web/kefs_file.js"), { moduleOf } = require("./program.js");
 
 const folder = process.argv[2], NAMES = ["pagefmt", "pagelook", "pagecat"];
 const programs = Object.fromEntries(NAMES.map((it) => [it, moduleOf(folder, it)]));
@@ -21,7 +22,7 @@ if (process.env.LIE) {
 
 function imageOf({ layout, specs, host }) {
   const files = new Map(Object.entries(host || {}).map(([name, content]) => [name, new Kefs.Disk(new TextEncoder().encode(content))]));
-  const { status, errors } = Kefs.run(programs.pagefmt, [layout, "image", ...(specs.length > 0 ? specs : ["zero:0"])], [], files);
+  const { status, errors } = Kefs.run(programs.pagefmt, [...Runs.wordsOf(layout), "image", ...(specs.length > 0 ? specs : ["zero:0"])], [], files);
   if (status !== 0) throw new Error(errors);
   return files;
 }
@@ -40,7 +41,7 @@ function run(request) {
 
 // An image as pagefmt makes it, or why it does not.
 function make({ layout, specs, host }) {
-  const files = new Map(Object.entries(host || {}).map(([name, content]) => [name, new Kefs.Disk(new TextEncoder().encode(content))])), { status, errors } = Kefs.run(programs.pagefmt, [layout, "image", ...specs], [], files);
+  const files = new Map(Object.entries(host || {}).map(([name, content]) => [name, new Kefs.Disk(new TextEncoder().encode(content))])), { status, errors } = Kefs.run(programs.pagefmt, [...Runs.wordsOf(layout), "image", ...specs], [], files);
   return { status, errors, image: files.has("image") ? sum(files.get("image").bytes) : null };
 }
 
@@ -132,7 +133,7 @@ class Device {
 // or lost a commit that was acknowledged.
 function commits({ path: to, count, fillings, drop }) {
   const lengths = [8192, 5000], famsync = moduleOf(folder, "famsync"), device = new Device();
-  KefsFile.create(device, lengths);
+  KefsFile.create(device, lengths, 1008);
   const base = device.disk.bytes.slice(), image = new KefsFile.Image(famsync, device), read = (it) => sum(Buffer.concat([[0, 0], [0, 1], [1, 0], [1, 1]].map(([file, page]) => it.read(file, page))));
   device.disk.events = [];
   const after = [read(image)], acknowledged = [0];
@@ -153,6 +154,45 @@ function commits({ path: to, count, fillings, drop }) {
   return told;
 }
 
+// Commits of these numbers of pages, one after the other, to a file that is as long as the longest, on a new image, which is left at `path`. Of each the pages that are not found again when the
+// image is opened anew.
+function large({ path: to, counts, pool }) {
+  const famsync = moduleOf(folder, "famsync"), device = new Device(), most = Math.max(...counts), held = Array(most).fill(0);
+  KefsFile.create(device, [4096 * most], pool);
+  const image = new KefsFile.Image(famsync, device);
+  const lost = counts.map((count, n) => {
+    const pages = Array.from({ length: count }, (_, page) => most - 1 - page);
+    image.commit(pages.map((page) => ({ file: 0, page, bytes: new Uint8Array(4096).fill(n + 1) })));
+    pages.forEach((page) => { held[page] = n + 1; });
+    const anew = new KefsFile.Image(famsync, new Device(device.disk.bytes.slice()));
+    return held.filter((it, page) => !anew.read(0, page).every((byte) => byte === it)).length;
+  });
+  fs.writeFileSync(to, device.disk.bytes);
+  return lost;
+}
+
+// What is said of an image of a layout, empty as it was made.
+function refusals({ marks }) {
+  const made = new Device();
+  KefsFile.create(made, [4096], 1008);
+  return marks.map((mark) => {
+    const bytes = made.disk.bytes.slice();
+    bytes.set(new TextEncoder().encode(mark.repeat(128)));
+    return opened(moduleOf(folder, "famsync"), bytes, () => "");
+  });
+}
+
+// What a new image is, or why there is none.
+function created({ lengths, pool }) {
+  const device = new Device();
+  try {
+    KefsFile.create(device, lengths, pool);
+    return sum(device.disk.bytes);
+  } catch (why) {
+    return why.message;
+  }
+}
+
 // What is read of an image, or why it is refused.
 function opened(famsync, bytes, read) {
   try {
@@ -162,7 +202,7 @@ function opened(famsync, bytes, read) {
   }
 }
 
-const VERBS = { imports, run, commits, make, stops, wide, asked, drawn, advice, forms: () => Trace.FORMS };
+const VERBS = { imports, run, commits, large, refusals, created, make, stops, wide, asked, drawn, advice, forms: () => Trace.FORMS };
 
 createInterface({ input: process.stdin }).on("line", (line) => {
   const request = JSON.parse(line);

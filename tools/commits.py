@@ -1,6 +1,6 @@
-"""Msyncs by the order of their writes in docs/FORMATS.md, of layouts 2 and 3, and what a stop at each write and sync leaves, as pagestops prints it; beside them a
+"""Msyncs by the order of their writes in docs/FORMATS.md, of layouts 2 and 4, and what a stop at each write and sync leaves, as pagestops prints it; beside them a
 plain msync, which writes pages where they belong, and tears. It runs no program, and shares no code with one; tests/tools compares its lines of layout 2 with
-those of pagestops."""
+those of pagestops, tests/edges those of layout 4."""
 from typing import NamedTuple, Optional
 
 OPEN, ZEROS = b"GATEOPEN" * 64, bytes(512)
@@ -8,15 +8,34 @@ FILLINGS = (None, ZEROS, b"\xff" * 512, OPEN[:256] + ZEROS[:256], OPEN)
 
 
 class Layout(NamedTuple):
-    """The sectors of the gate, if any, and of the first home, and those of the journals that a closed gate names, if any, and an open one."""
+    """The sectors of the gate, if any, and of the first home of a file, and those of the journals, of a pool the maps, that a closed gate names, if any, and an
+    open one; of a pool how many blocks a map has, and how many slots of a body serve."""
 
     gate: Optional[int]
     homes: int
     journals: tuple
+    blocks: int = 0
+    places: int = 0
+
+    def slot(self, is_second, place):
+        """The first sector of a slot."""
+        return self.journals[is_second] + 8 * (self.blocks + place)
+
+    def block(self, is_second, q):
+        """The first sector of a block of a map, of which the last one comes first."""
+        return self.journals[is_second] + 8 * (self.blocks - 1 - q)
 
 
 PLAIN = 0  # no layout: a file without a journal
-LAYOUTS = {PLAIN: Layout(None, 0, (None, None)), 2: Layout(2, 8195, (None, 3)), 3: Layout(16, 16408, (24, 8216))}
+BLOCK = 504  # slots of each body that a block names
+DIRECTORY = 4  # homes of a new pool before those of files
+
+
+def pool(blocks):
+    return Layout(8, 16 + 8080 * blocks + 8 * DIRECTORY, (16, 16 + 4040 * blocks), blocks, BLOCK * blocks)
+
+
+LAYOUTS = {PLAIN: Layout(None, 0, (None, None)), 2: Layout(2, 8195, (None, 3)), 4: pool(4)}
 
 
 def sectors_of(first, content):
@@ -30,6 +49,7 @@ class Disk:
     def __init__(self, layout, together=1, drop=None):
         self.layout, self.together, self.drop, self.synced, self.unsynced = layout, together, drop, {}, {}
         self.stops, self.done = [], 0
+        self.slots = {}  # of a pool, by homes of files
 
     def stop(self, part, sectors):
         """Notes the part, the sectors that may hold any bytes, and how many msyncs were done."""
@@ -53,6 +73,9 @@ class Disk:
 
     def pages(self, image, count):
         """The home pages that the image stands for; none where its journal is bad."""
+        if self.layout.blocks:
+            slots = self.slots_in(image)
+            return [self.page(image, slots.get(k, self.layout.homes + 8 * k)) for k in range(count)]
         start, live = self.layout.journals[image.get(self.layout.gate) == OPEN], []
         if start is not None:
             numbers = memoryview(self.page(image, start)).cast("I").tolist()
@@ -60,6 +83,17 @@ class Disk:
             if numbers[0] > 1023:
                 return []
         return [self.page(image, start + 8 + 8 * live.index(k) if k in live else self.layout.homes + 8 * k) for k in range(count)]
+
+    def slots_in(self, image):
+        """The first sectors of the slots that the named map of a pool gives to homes of files, of each home the first one."""
+        layout, second, slots = self.layout, image.get(self.layout.gate) == OPEN, {}
+        counted = min(memoryview(self.page(image, layout.block(second, 0))).cast("I")[0], layout.blocks)
+        blocks = [memoryview(self.page(image, layout.block(second, q))).cast("I").tolist() for q in range(counted)]
+        for body in (0, 1):
+            for q, block in enumerate(blocks):
+                for place, number in enumerate(block[16 + BLOCK * body:16 + BLOCK * (body + 1)], BLOCK * q):
+                    slots.setdefault(number - 1 - DIRECTORY, layout.slot(body, place))
+        return slots
 
 
 def stage(disk, start, pages):
@@ -86,14 +120,36 @@ def in_one(disk, live, pages):
     disk.sync()
 
 
-def in_turn(disk, live, pages):
-    """An msync of layout 3 over live pages: the journal that the gate doesn't name takes it."""
-    other = disk.synced.get(disk.layout.gate) != OPEN
-    stage(disk, disk.layout.journals[other], pages)
-    copy_home(disk, {home: page for home, page in live.items() if home not in pages})
+def in_slots(disk, live, pages):
+    """An msync of layout 4: the pages go to free slots, those of the other body first, and the other map names these. Where slots of other pages and new ones are
+    more than a body has, the others are copied home."""
+    layout, other = disk.layout, disk.synced.get(disk.layout.gate) != OPEN
+    kept = {home: slot for home, slot in sorted(disk.slots.items()) if home not in pages}
+    if len(kept) + len(pages) > layout.places:
+        copy_home(disk, {home: disk.page(disk.synced, layout.slot(*slot)) for home, slot in kept.items()})
+        kept = {}
+    taken = set(disk.slots.values())
+    free = [slot for body in (other, not other) for slot in ((body, place) for place in range(layout.places)) if slot not in taken]
+    given = dict(zip(pages, free))
+    for home, page in pages.items():
+        disk.write("body", layout.slot(*given[home]), page)
+    disk.slots = kept | given
+    write_map(disk, other)
     disk.sync()
-    disk.write("gate", disk.layout.gate, OPEN if other else ZEROS)
+    disk.write("gate", layout.gate, OPEN if other else ZEROS)
     disk.sync()
+
+
+def write_map(disk, other):
+    """The blocks of a map that count, the last of them first."""
+    counted = 1 + max((place // BLOCK for _, place in disk.slots.values()), default=0)
+    for q in reversed(range(counted)):
+        numbers = [0] * 1024
+        numbers[0] = counted if q == 0 else 0
+        for home, (body, place) in disk.slots.items():
+            if place // BLOCK == q:
+                numbers[16 + BLOCK * body + place % BLOCK] = home + DIRECTORY + 1
+        disk.write("map", disk.layout.block(other, q), b"".join(it.to_bytes(4, "little") for it in numbers))
 
 
 def in_place(disk, live, pages):
@@ -103,7 +159,7 @@ def in_place(disk, live, pages):
     disk.sync()
 
 
-MSYNCS = {PLAIN: in_place, 2: in_one, 3: in_turn}
+MSYNCS = {PLAIN: in_place, 2: in_one, 4: in_slots}
 
 
 def stops_of_msyncs(number, msyncs, together=1, drop=None):

@@ -126,10 +126,10 @@ def acknowledged(picture, stops, left, cell, top):
 NARROW, WIDE, HIGH = 9, 22, 22
 
 
-def two_maps(stops, turns):
-    """The same msyncs in layout 2 and in layout 3."""
+def two_maps(stops, slots):
+    """The same msyncs in layout 2 and in layout 4."""
     maps = [(f"{name}, {sum(it.part == 'sync' for it in row) - 1} syncs", row)
-            for name, row in (("layout 2: one journal", stops), ("layout 3: two journals in turn", turns))]
+            for name, row in (("layout 2: a journal", stops), ("layout 4: a pool of slots", slots))]
     return side_by_side("Two msyncs of a page, the power cut at every write and sync: which of them stand?", maps)
 
 

@@ -83,14 +83,20 @@ const Cuts = (() => {
     }
   }
 
-  // The part of an image that a sector is of, in layout 2 or 3 by the image's mark.
+  // Of an image, by its mark, the sectors of the gate, of a map, of the first home, and where maps begin: one in layout 2, two of so many blocks in layout 4.
+  function placesOf(image) {
+    if (image[7] !== 52) return { gate: 2, map: 8, homes: 8195, maps: [3] };
+    const blocks = new DataView(image.buffer, image.byteOffset).getUint32(SECTOR + 8, true);
+    return { gate: 8, map: 8 * blocks, homes: 16 + 8080 * blocks, maps: [16, 16 + 4040 * blocks] };
+  }
+
+  // The part of an image that a sector is of.
   function partOf(image, sector) {
     if (sector < 0) return "sync";
-    const isThird = image[7] === 51, [at, homes] = isThird ? [16, 16408] : [2, 8195], journals = isThird ? [24, 8216] : [3];
-    if (sector === at) return "gate";
+    const { gate, map, homes, maps } = placesOf(image), start = maps.filter((it) => it <= sector).pop();
+    if (sector === gate) return "gate";
     if (sector >= homes) return "home";
-    const start = journals.filter((it) => it <= sector).pop();
-    return start === undefined ? "head" : sector < start + 8 ? "map" : "body";
+    return start === undefined ? "head" : sector < start + map ? "map" : "body";
   }
 
   return { FILLINGS, Trial, left, partOf };

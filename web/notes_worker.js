@@ -2,6 +2,7 @@
 "use strict";
 (() => {
   const NAME = "notes.img", LENGTH = 65536, HEAD = 8; // bytes of a file, and of what stands before a note
+  const POOL = 1008; // slots, the least that a pool has: 4.1 MB of what the browser grants. A save takes 32
   let image = null;
 
   async function unpacked(packed) {
@@ -11,7 +12,7 @@
 
   async function open({ famsync }) {
     const folder = await navigator.storage.getDirectory(), file = await folder.getFileHandle(NAME, { create: true }), device = await file.createSyncAccessHandle();
-    if (!KefsFile.hasMark(device)) KefsFile.create(device, [LENGTH, LENGTH]);
+    if (!KefsFile.hasMark(device)) KefsFile.create(device, [LENGTH, LENGTH], POOL);
     image = new KefsFile.Image(await unpacked(famsync), device);
     return { notes: [read(0), read(1)] };
   }

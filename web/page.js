@@ -327,6 +327,7 @@ var Page = (() => { // of the window, where tests find its state
     else if (words.has("trace")) {
       fresh();
       for (const name of ["specs", "frames", "slots", "mode", "layout", "trace"]) if (words.has(name)) part(name).value = words.get(name);
+      if (part("layout").value === "") part("layout").value = "new"; // a link to a layout that no image is made of any more
       own();
       check(at);
     } else return false;
@@ -355,7 +356,7 @@ var Page = (() => { // of the window, where tests find its state
 
   function summary() {
     const { specs, frames, slots, mode, layout } = settings();
-    part("summary").textContent = `${frames} frames, ${slots} slots, ${mode === "sv39" ? "Sv39" : "Sv48"}, ${specs.length === 0 ? "no file" : specs.join(" ")}, layout ${layout === "new" ? 2 : 3}`;
+    part("summary").textContent = `${frames} frames, ${slots} slots, ${mode === "sv39" ? "Sv39" : "Sv48"}, ${specs.length === 0 ? "no file" : specs.join(" ")}, layout ${layout === "new" ? 2 : 4}`;
   }
 
   function fresh() {

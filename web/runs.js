@@ -6,13 +6,16 @@ const Runs = (() => {
   const text = (lines) => lines.map((it) => `${it}\n`).join("");
   const acknowledges = (command, reply) => /^msync .* sync$/.test(command) && reply === "ok";
 
-  // A machine's settings: the specs of its files, the image's layout (new or new3), frames, slots, mode, the host's files by name; and `start`, the image
+  // The words of pagefmt that make an image of layout 2 (new) or 4 (new4), this one with the smallest pool: each cut copies the image.
+  const wordsOf = (layout) => (layout === "new4" ? [layout, "--pool", "1008"] : [layout]);
+
+  // A machine's settings: the specs of its files, the image's layout (new or new4), frames, slots, mode, the host's files by name; and `start`, the image
   // that a cut has left, where it goes on from one, with its number `startedOn`.
   function imageOf(programs, { specs, layout, host, start }) {
     const files = new Map(Object.entries(host).map(([name, content]) => [name, new Kefs.Disk(new TextEncoder().encode(content))]));
     if (start) files.set("image", new Kefs.Disk(start.slice()));
     else {
-      const made = Kefs.run(programs.pagefmt, [layout, "image", ...(specs.length > 0 ? specs : ["zero:0"])], [], files);
+      const made = Kefs.run(programs.pagefmt, [...wordsOf(layout), "image", ...(specs.length > 0 ? specs : ["zero:0"])], [], files);
       if (made.status !== 0) throw new Error(`${made.errors.trim()} (files: ${specs.join(" ")})`);
     }
     return files;
@@ -136,7 +139,7 @@ const Runs = (() => {
     };
   }
 
-  return { server, run, ask, VERBS };
+  return { server, run, ask, wordsOf, VERBS };
 })();
 if (typeof module !== "undefined") module.exports = Runs;
 if (typeof WorkerGlobalScope !== "undefined" && globalThis instanceof WorkerGlobalScope) {

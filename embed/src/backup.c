@@ -12,8 +12,9 @@ enum { CHUNK = 256, ROUNDS = 3 }; /* homes that are copied in one turn, and roun
 struct backup { struct kefs_image *image; struct new_file file; struct layout layout; uint32_t shift; unsigned char *late, *chunk; };
 
 void note_homes(struct kefs_image *image) {
-  for (size_t i = 0; i < image->taken && image->late != NULL; i++)
-    set_bit(image->late, home_of_page(&image->files[image->pages[i].file], image->pages[i].page));
+  const struct taken *taken = image->planned;
+  for (size_t i = 0; i < taken->count && image->late != NULL; i++)
+    set_bit(image->late, home_of_page(&image->files[taken->pages[i].file], taken->pages[i].page));
 }
 
 /* Marks the homes that may hold other bytes than zeros as late: those with room in the file, and those whose pages stand elsewhere. */

@@ -77,21 +77,29 @@ static void let_go(struct mapping *mapping, size_t k, int done) {
 }
 
 void let_all_go(struct kefs_image *image, int done) {
-  if (done && image->taken > 0) image->stat.commits++, image->stat.committed_pages += image->taken, note_homes(image);
-  for (size_t i = 0; i < image->taken; i++) let_go(&image->mappings[image->pages[i].file], image->pages[i].page, done);
-  image->taken = 0;
+  struct taken *taken = &image->taken;
+  for (size_t i = 0; i < taken->count; i++) let_go(&image->mappings[taken->pages[i].file], taken->pages[i].page, done);
+  taken->count = 0;
+}
+
+/* Of either kind of pages there are none where the commit is of the other. */
+void end_commit(struct kefs_image *image, int done) {
+  size_t pages = image->planned->count;
+  if (done && pages > 0) image->stat.commits++, image->stat.committed_pages += pages, note_homes(image);
+  let_all_go(image, done);
+  end_running(image, done);
 }
 
 /* Puts a page that is taken into the commit: whether it found place there. */
 static int put_page(struct mapping *mapping, size_t k) {
   struct kefs_image *image = mapping->image;
-  if (image->taken == 0) image->most = free_places(image);
-  if (image->taken == image->most) return 0;
-  image->pages[image->taken++] = (struct famsync_page){(uint8_t)(mapping - image->mappings), (uint32_t)k};
+  struct taken *taken = &image->taken;
+  if (taken->count == image->places.room) return 0;
+  taken->pages[taken->count++] = (struct famsync_page){(uint8_t)(mapping - image->mappings), (uint32_t)k};
   return 1;
 }
 
-static int are_too_many(struct kefs_image *image) { return fail(image, KEFS_TOO_MANY, "over %zu pages are dirty", image->most); }
+int are_too_many(struct kefs_image *image) { return fail(image, KEFS_TOO_MANY, "over %zu pages are dirty", image->places.room); }
 
 /* Puts the dirty pages of an area, or a part of one, into the commit. Where one stays dirty, since a range before has taken it or as one too many, the area
    stays so. */
@@ -127,10 +135,10 @@ static int take(struct kefs_image *image, const struct kefs_range *ranges, size_
   struct spans it = spans_of(image, ranges, count);
   struct span span;
   while (next_span(&it, &span)) {
-    size_t before = image->taken;
+    size_t before = image->taken.count;
     int number = note_dirty(&span), result = number == KEFS_OK ? take_span(&span) : fail(image, number, "looking for dirty pages");
     if (result != KEFS_OK) return result;
-    number = image->taken > before ? seal(&span) : KEFS_OK;
+    number = image->taken.count > before ? seal(&span) : KEFS_OK;
     if (number != KEFS_OK) return fail(image, number, "closing dirty pages");
   }
   return KEFS_OK;
@@ -185,14 +193,9 @@ static int take_all_changed(struct kefs_image *image, const struct kefs_range *r
   let_all_go(image, 0);
   while (all && next_span(&it, &span)) all = note_dirty(&span) == KEFS_OK && take_changed(&span);
   if (all) return KEFS_OK;
-  image->taken = 0;
+  image->taken.count = 0;
   for (it = spans_of(image, ranges, count); next_span(&it, &span);) give_back(&span);
   return are_too_many(image);
-}
-
-static int take_as_needed(struct kefs_image *image, const struct kefs_range *ranges, size_t count) {
-  int result = take(image, ranges, count);
-  return result == KEFS_TOO_MANY && may_forget(image, ranges, count) ? take_all_changed(image, ranges, count) : result;
 }
 
 static int result_of(uint32_t answer) {
@@ -207,38 +210,47 @@ static int result_of(uint32_t answer) {
 
 /* Pages in rising order are planned faster. They are so, but where ranges came in another one. */
 
-static uint32_t order_of(const struct famsync_page *page) { return (uint32_t)page->file << 20 | page->page; }
-
 static struct famsync_page page_of(uint32_t order) { return (struct famsync_page){(uint8_t)(order >> 20), order & 0xfffff}; }
 
-static int are_in_order(const struct kefs_image *image) {
-  for (size_t i = 1; i < image->taken; i++)
-    if (order_of(&image->pages[i - 1]) > order_of(&image->pages[i])) return 0;
+static int are_in_order(const struct taken *taken) {
+  for (size_t i = 1; i < taken->count; i++)
+    if (order_of(&taken->pages[i - 1]) > order_of(&taken->pages[i])) return 0;
   return 1;
 }
 
 /* The image's places are read anew after the commit, so that their room may serve. */
 static void put_in_order(struct kefs_image *image) {
   struct places *places = &image->places;
-  for (size_t i = 0; i < image->taken; i++) places->list[i].home = order_of(&image->pages[i]);
-  places->count = image->taken;
+  struct taken *taken = &image->taken;
+  for (size_t i = 0; i < taken->count; i++) places->list[i].home = order_of(&taken->pages[i]);
+  places->count = taken->count;
   sort_places(places);
-  for (size_t i = 0; i < image->taken; i++) image->pages[i] = page_of(places->list[i].home);
+  for (size_t i = 0; i < taken->count; i++) taken->pages[i] = page_of(places->list[i].home);
   forget_places(image);
 }
 
 static void find_bytes(struct kefs_image *image) {
-  for (size_t i = 0; i < image->taken; i++)
-    image->page_bytes[i] = (struct famsync_bytes){image->mappings[image->pages[i].file].at + (size_t)image->pages[i].page * PAGE};
+  struct taken *taken = &image->taken;
+  for (size_t i = 0; i < taken->count; i++)
+    taken->bytes[i] = (struct famsync_bytes){image->mappings[taken->pages[i].file].at + (size_t)taken->pages[i].page * PAGE};
+}
+
+int take_pages(struct kefs_image *image, const struct kefs_range *ranges, size_t count, int may_compare) {
+  int result = take(image, ranges, count);
+  if (result == KEFS_TOO_MANY && may_compare && may_forget(image, ranges, count)) result = take_all_changed(image, ranges, count);
+  if (result == KEFS_OK && !are_in_order(&image->taken)) put_in_order(image);
+  find_bytes(image);
+  return result;
 }
 
 static int plan_taken(struct kefs_image *image, struct famsync_handle *handle) {
   struct plan *scratch = &image->scratch, *plan = &image->plan;
+  const struct taken *taken = image->planned;
   begin_heap(&image->heap);
   uint32_t answer = famsync_commit(handle, image->bytes, image->sectors, scratch->calls, scratch->room, scratch->rows, scratch->room, &plan->used,
-                                   plan->calls, plan->room, plan->rows, plan->room, image->pages, image->taken, image->page_bytes, image->taken);
+                                   plan->calls, plan->room, plan->rows, plan->room, taken->pages, taken->count, taken->bytes, taken->count);
   end_heap();
-  return answer == FAMSYNC_OK ? KEFS_OK : fail(image, result_of(answer), "no plan for %zu pages (%u)", image->taken, (unsigned)answer);
+  return answer == FAMSYNC_OK ? KEFS_OK : fail(image, result_of(answer), "no plan for %zu pages (%u)", taken->count, (unsigned)answer);
 }
 
 /* The slots of pages that a plan copies home are given to others by the plan that comes next. */
@@ -248,54 +260,41 @@ static int read_dropped(struct kefs_image *image) {
   return number == KEFS_OK ? KEFS_OK : fail(image, number == EIO ? KEFS_DEVICE : number, "reading pages that were not touched");
 }
 
-/* The plan's handle becomes the image's with the plan's first call: a plan that is given up before it never was. */
-static int carry_out_taken(struct kefs_image *image) {
-  struct famsync_handle handle = image->handle;
-  int result = plan_taken(image, &handle);
-  if (result == KEFS_OK) result = read_dropped(image);
+/* Makes the calls of a plan. Room is taken before readers are kept out, so that a plan that is refused for want of it leaves all as it was. Its handle becomes the
+   image's with its first call: a plan that is given up before it never was. Readers are let in again when the last sync is over, and not where a call has failed
+   (end_change). */
+static int make_calls(struct kefs_image *image, const struct famsync_handle *handle) {
+  int result = read_dropped(image);
   if (result == KEFS_OK) result = take_rooms(image);
-  if (result == KEFS_OK) result = begin_change(image);
   if (result != KEFS_OK) return result;
-  image->handle = handle;
-  return carry_out(image);
-}
-
-/* Room is taken before readers are kept out, so that a commit that is refused for want of it leaves all as it was. They are let in again when the last sync is
-   over, and not where a call has failed (end_change). */
-static int commit_taken(struct kefs_image *image) {
-  if (!are_in_order(image)) put_in_order(image);
-  find_bytes(image);
-  int result = image->taken == 0 ? KEFS_OK : carry_out_taken(image);
+  let_in(image);
+  result = begin_change(image);
+  keep_out(image);
+  if (result == KEFS_OK) image->handle = *handle, result = carry_out(image);
   end_change(image);
   return result;
 }
 
-/* A commit of more pages than a body of the pool has slots leaves fewer slots than that for the next one. Then a page is committed as it is durable: it is the only
-   one that keeps a slot, since the plan copies all others home. */
-
-static int page_as_durable(struct kefs_image *image, unsigned char *bytes) {
-  for (unsigned f = 0; f < KEFS_FILES; f++) {
-    const struct file *file = &image->files[f];
-    if (!file->present || file->read_only || file->length == 0) continue;
-    copy_durable_page(image, home_of_page(file, 0), bytes);
-    image->pages[0] = (struct famsync_page){(uint8_t)f, 0}, image->page_bytes[0] = (struct famsync_bytes){bytes};
-    return image->taken = 1;
-  }
-  return 0;
+int commit_taken(struct kefs_image *image, struct taken *taken) {
+  struct famsync_handle handle = image->handle;
+  image->planned = taken;
+  int result = taken->count == 0 ? KEFS_OK : plan_taken(image, &handle);
+  return result == KEFS_OK && taken->count > 0 ? make_calls(image, &handle) : result;
 }
 
-/* The page is none that was taken of a mapped file. */
-static int make_room(struct kefs_image *image) {
-  unsigned char bytes[PAGE];
-  int result = page_as_durable(image, bytes) ? carry_out_taken(image) : KEFS_TOO_MANY;
-  end_change(image);
-  image->taken = 0;
-  return result;
+int tidy(struct kefs_image *image) {
+  struct famsync_handle handle = image->handle;
+  image->planned = &image->none;
+  if (image->layout.blocks == 0 || free_places(image) == image->places.room) return KEFS_OK;
+  int result = plan_tidy(image, &handle);
+  return result == KEFS_OK ? make_calls(image, &handle) : result;
 }
+
+int make_room_for(struct kefs_image *image, size_t pages) { return pages > free_places(image) ? tidy(image) : KEFS_OK; }
 
 /* Where the device has no room, as a file system may find out late, the image is recovered at once and goes on, with the pages still
    dirty. Should that fail too, it stays halted. */
-static int go_on(struct kefs_image *image, int result) {
+int go_on(struct kefs_image *image, int result) {
   image->outcome = IN_DOUBT;
   if (result == KEFS_DEVICE) return result;
   char kept[MESSAGE];
@@ -308,23 +307,19 @@ static int go_on(struct kefs_image *image, int result) {
 /* A page of a commit that failed stays taken, until kefs_recover says what became of it. */
 static int commit(struct kefs_image *image, const struct kefs_range *ranges, size_t count, size_t *taken) {
   ignore_reads(1);
-  int result = take_as_needed(image, ranges, count);
-  if (result == KEFS_TOO_MANY && image->most < most_pages(&image->layout)) {
-    let_all_go(image, 0);
-    result = make_room(image);
-    if (result == KEFS_OK) result = take_as_needed(image, ranges, count);
-  }
-  if (result == KEFS_OK) result = commit_taken(image);
+  int result = take_pages(image, ranges, count, 1);
+  size_t pages = image->taken.count;
+  if (result == KEFS_OK) result = make_room_for(image, pages);
+  if (result == KEFS_OK) result = commit_taken(image, &image->taken);
   ignore_reads(0);
-  size_t pages = image->taken;
   if (image->halted) result = go_on(image, result);
   if (image->halted) return result;
   if (result == KEFS_OK && taken != NULL) *taken = pages;
-  let_all_go(image, result == KEFS_OK);
+  end_commit(image, result == KEFS_OK);
   return result;
 }
 
-static int check_ranges(struct kefs_image *image, const struct kefs_range *ranges, size_t count) {
+int check_ranges(struct kefs_image *image, const struct kefs_range *ranges, size_t count) {
   return ranges == NULL && count > 0 ? fail(image, EINVAL, "no ranges") : KEFS_OK;
 }
 
@@ -333,6 +328,7 @@ int kefs_commit(kefs_image *image, const struct kefs_range *ranges, size_t count
   if (result != KEFS_OK) return result;
   if (image->read_only) return leave(image, fail(image, KEFS_READ_ONLY, "kefs_commit"));
   result = check_ranges(image, ranges, count);
+  if (result == KEFS_OK) result = commit_started(image); /* what was started before comes first */
   if (result == KEFS_OK) result = commit(image, ranges, count, taken);
   return leave(image, result);
 }
@@ -389,11 +385,21 @@ static int count_dirty(struct kefs_image *image, const struct kefs_range *ranges
 }
 
 int kefs_count_dirty(kefs_image *image, const struct kefs_range *ranges, size_t count, size_t *pages) {
-  int result = enter(image);
+  int result = enter_beside(image);
+  if (result == KEFS_OK && image->halted) result = leave(image, KEFS_HALTED);
   if (result != KEFS_OK) return result;
   result = pages == NULL ? fail(image, KEFS_BAD_ARGUMENT, "no place for the count") : check_ranges(image, ranges, count);
   if (result == KEFS_OK) result = count_dirty(image, ranges, count, pages);
   return leave(image, result);
+}
+
+/* As the last commit of the page has it that was started or made. */
+static void copy_committed(struct mapping *mapping, size_t k) {
+  unsigned char *to = mapping->at + k * PAGE;
+  const unsigned char *started = started_bytes(mapping->image, mapping, k);
+  if (started == NULL) return copy_durable(mapping, k, to);
+  memcpy(to, started, PAGE);
+  put_end(mapping, k, to);
 }
 
 /* The marks are dropped when the stores of the roll back itself are forgotten. */
@@ -402,7 +408,7 @@ static int roll_back_span(const struct span *span) {
   int number = note_dirty(span);
   if (number != KEFS_OK) return number;
   for (size_t k = next_marked(mapping, span->first, span->end); k < span->end; k = next_marked(mapping, k + 1, span->end))
-    copy_durable(mapping, k, mapping->at + k * PAGE);
+    copy_committed(mapping, k);
   number = forget_stores(span);
   for (size_t k = next_marked(mapping, span->first, span->end); k < span->end; k = next_marked(mapping, k + 1, span->end))
     drop_mark(&mapping->marks[k], DIRTY);

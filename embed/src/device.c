@@ -164,8 +164,9 @@ static int take_plan(struct kefs_image *image) {
 int take_rooms(struct kefs_image *image) {
   int result = KEFS_OK;
   if (image->roomless == NULL) return KEFS_OK;
-  for (size_t i = 0; i < image->taken && image->layout.blocks == 0 && result == KEFS_OK; i++) {
-    size_t sector = home_sector(&image->layout, home_of_page(&image->files[image->pages[i].file], image->pages[i].page));
+  const struct taken *taken = image->planned;
+  for (size_t i = 0; i < taken->count && image->layout.blocks == 0 && result == KEFS_OK; i++) {
+    size_t sector = home_sector(&image->layout, home_of_page(&image->files[taken->pages[i].file], taken->pages[i].page));
     result = take_sectors(image, sector, sector + PAGE / SECTOR);
   }
   return result == KEFS_OK ? take_plan(image) : result;
@@ -190,7 +191,7 @@ enum { MOST_PARTS = 256 };
 static struct iovec bytes_of(const struct kefs_image *image, size_t k) {
   const struct famsync_call *call = &image->plan.calls[k];
   const void *at = call->kind == FAMSYNC_WRITE  ? image->plan.rows[k]
-                   : call->kind == FAMSYNC_LENT ? image->page_bytes[call->from].at
+                   : call->kind == FAMSYNC_LENT ? image->planned->bytes[call->from].at
                                                 : image->bytes + SECTOR * call->from;
   return (struct iovec){(void *)(uintptr_t)at, call->kind == FAMSYNC_WRITE ? SECTOR : PAGE};
 }
@@ -228,7 +229,9 @@ int carry_out(struct kefs_image *image) {
   for (size_t i = 0; i < plan->used;) {
     int count = 0, is_sync = plan->calls[i].kind == FAMSYNC_SYNC;
     size_t made = is_sync ? 1 : gather(image, i, parts, &count), bytes = length_of(parts, count);
+    let_in(image);
     int number = make_call(image, i, parts, count, bytes);
+    keep_out(image);
     if (number != KEFS_OK) return halt(image, i, bytes, number);
     image->stat.written_bytes += bytes;
     image->stat.syncs += (uint64_t)is_sync;

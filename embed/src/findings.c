@@ -71,7 +71,7 @@ static struct finding check_mark(const struct kefs_image *image) {
   return found(KEFS_NOT_IMAGE, "sector 0 is not the mark of an image", 0, 0);
 }
 
-struct finding check_image(struct kefs_image *image) {
+struct finding check_store(struct kefs_image *image) {
   struct file files[KEFS_FILES];
   struct finding finding = check_mark(image);
   if (finding.result != KEFS_OK) return finding;
@@ -82,4 +82,12 @@ struct finding check_image(struct kefs_image *image) {
     if (finding.result != KEFS_OK) return finding;
   }
   return check_journal(image);
+}
+
+const char OF_LAYOUT_3[] = "it has layout 3; 'kefscheck upgrade OLD NEW' makes one of layout 4 of it";
+
+struct finding check_image(struct kefs_image *image) {
+  struct finding finding = check_mark(image);
+  if (finding.result != KEFS_OK) return finding;
+  return image->layout.number == 3 ? found(KEFS_NOT_IMAGE, OF_LAYOUT_3, 0, 0) : check_store(image);
 }

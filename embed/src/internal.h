@@ -80,6 +80,31 @@ struct turns {
 /* Memory that the calls of libfamsync.a cut their blocks from (heap.c): `used` bytes are, the last block from `last` on. */
 struct heap { unsigned char *at; size_t length, used, last; };
 
+/* Pages that a commit takes, and where their bytes lie: in the mapped files, or in copies. */
+struct taken { struct famsync_page *pages; struct famsync_bytes *bytes; size_t count; };
+
+/* Those of commits that were started (starts.c), each once, in the order of files and pages: the last of these commits, the copies, and how many threads wait for
+   them. */
+struct started { struct taken taken; uint64_t last; unsigned char *copies; size_t waiters; };
+
+/* What became of the last try to make started commits durable: the last of them, and the result with its message. */
+enum { MESSAGE = 320 }; /* bytes of kefs_errmsg */
+struct attempt { uint64_t number, last; int result; char message[MESSAGE]; };
+
+/* Commits that were started. `gathered` are not in a commit yet, `running` are in the one that is made now or has failed. Commits have the numbers of their
+   tickets. */
+struct starts {
+  pthread_cond_t over; /* a commit of them is over, or something else that a thread waits for */
+  struct started gathered, running;
+  uint64_t last, durable; /* the last one that was started, and the last one that is durable with all before it */
+  size_t pages;           /* in `gathered` or in `running` */
+  int is_led, is_running; /* a thread leads the next commit of them; and makes its device calls, with the image's lock let go */
+  size_t kept_out, others; /* threads whose calls wait for these; and how many of them come before the next commit */
+  size_t hoped;           /* how many threads may wait for the next commit soon, */
+  long pause, patience;   /* for which its leader waits so many microseconds; and how many commits have none, since it waited in vain */
+  struct attempt tried;
+};
+
 /* Room that is lent to them for a plan: for `room` calls, of which the first `used` are to be made, and for as many rows. */
 struct plan { size_t used, room; struct famsync_call *calls; unsigned char (*rows)[SECTOR]; };
 
@@ -92,6 +117,7 @@ struct kefs_image {
   uint64_t generation; /* of the process that opened it */
   int fd;
   int read_only; /* opened with KEFS_RDONLY or KEFS_SNAPSHOT */
+  int takes_layout_3; /* opened by kefscheck, which makes one of layout 4 of it */
   struct turns turns;
   struct snapshot *snapshot; /* with KEFS_SNAPSHOT, or NULL */
   int halted;    /* a device call of a plan failed, */
@@ -109,9 +135,10 @@ struct kefs_image {
   struct heap heap;
   struct file files[KEFS_FILES];
   struct mapping mappings[KEFS_FILES];
-  struct famsync_page *pages; /* what a commit takes, `taken` of them and `most` at most, and where their bytes lie */
-  struct famsync_bytes *page_bytes;
-  size_t taken, most;
+  struct taken taken; /* what a commit takes of the mapped files */
+  struct taken *planned; /* what the plan is of: these, the started pages that are running, */
+  struct taken none;     /* or no page: it tidies the pool */
+  struct starts starts;
   struct places places; /* what the journal or the pool has now; where it is not listed it is to be read anew */
   pthread_mutex_t backups; /* one backup at a time */
   unsigned char *late;     /* a bit for each home that a backup has to copy yet, or NULL */
@@ -145,8 +172,6 @@ void end_heap(void);
 
 /* results.c */
 
-enum { MESSAGE = 320 }; /* bytes of kefs_errmsg */
-
 /* Writes this thread's message of the image, or that of its openings where there is no image, and returns the result. */
 int fail(const struct kefs_image *image, int result, const char *format, ...) __attribute__((format(printf, 3, 4)));
 /* Makes the message of the image that of this thread's openings. */
@@ -177,9 +202,8 @@ struct layout pool_layout(uint32_t blocks, uint32_t directory_pages);
 int is_same_layout(const struct layout *one, const struct layout *other);
 /* How many sectors a host file of this layout has at least. */
 static inline size_t least_sectors(const struct layout *layout) { return home_sector(layout, layout->directory_pages); }
-/* How many places there are for pages outside of their homes, in one journal or in the pool; and how many pages every commit may take. */
+/* How many places there are for pages outside of their homes, in one journal or in the pool: so many pages every commit may take. */
 size_t places_of(const struct layout *layout);
-size_t most_pages(const struct layout *layout);
 /* How many home pages the host file has. */
 uint64_t home_pages(const struct kefs_image *image);
 /* Entry `f` of the directory: KEFS_OK, or KEFS_NOT_IMAGE where it is none, and the reason. Of layout 4 it may be over the last that a file may have. */
@@ -205,6 +229,8 @@ uint32_t count_of_map(const struct kefs_image *image);
 uint32_t journal_home(const struct kefs_image *image, uint32_t i);
 /* Copies the durable bytes of a home page. */
 void copy_durable_page(struct kefs_image *image, uint32_t home, unsigned char *to);
+/* Zeros past the file's end, in page `k` of a mapped file. */
+void put_end(const struct mapping *mapping, size_t k, unsigned char *page);
 /* Page `k` of a mapped file as it is durable, with zeros past the file's end. */
 void copy_durable(const struct mapping *mapping, size_t k, unsigned char *to);
 /* Whether sector 0, which has to be there, is these eight bytes again and again. */
@@ -223,7 +249,7 @@ void sort_places(struct places *places);
 size_t first_place(const struct places *places, uint32_t home);
 /* The image's own, as its gate and maps are now. */
 const struct places *image_places(struct kefs_image *image);
-/* How many pages the next commit may take. */
+/* How many pages the next commit may take before any is brought home. */
 size_t free_places(struct kefs_image *image);
 /* The first sector of what stands for a home. */
 size_t standing_sector(struct kefs_image *image, uint32_t home);
@@ -248,6 +274,10 @@ int format_with_pool(const char *path, unsigned permissions, const struct kefs_f
 /* What is wrong with an image: KEFS_OK, or the result that an opening gives, and the reason in words. */
 struct finding { int result; char words[160]; };
 struct finding check_image(struct kefs_image *image);
+/* As it, but that layout 3 is none that is wrong. */
+struct finding check_store(struct kefs_image *image);
+/* What is wrong with layout 3. */
+extern const char OF_LAYOUT_3[];
 
 /* device.c */
 
@@ -270,9 +300,9 @@ int take_room(int fd, off_t offset, off_t length);
 int may_lack_room(const struct kefs_image *image, size_t sector);
 /* Takes room for these sectors, as far as the image has them and they may have none: KEFS_OK, or the image's result. */
 int take_sectors(struct kefs_image *image, size_t first, size_t end);
-/* Takes room for what the plan writes, before any call of it, and in layouts 2 and 3 for the homes of the pages that are taken: KEFS_OK, or the image's result. */
+/* Takes room for what the plan writes, before any call of it, and in layout 2 for the homes of the pages that are taken: KEFS_OK, or the image's result. */
 int take_rooms(struct kefs_image *image);
-/* Makes the calls of the image's plan: KEFS_OK, or a result; then the image is halted. */
+/* Makes the calls of the image's plan: KEFS_OK, or a result; then the image is halted. The lock is let go for each call where started commits are running. */
 int carry_out(struct kefs_image *image);
 
 /* create.c: new files that get their names when they are whole. */
@@ -298,6 +328,10 @@ int holder_of(int fd);
 int settle(struct kefs_image *image);
 /* The layout that the host file has by its kind, which is read by a call: KEFS_OK or the image's result. */
 int read_kind(struct kefs_image *image);
+/* KEFS_NOT_IMAGE where an image is of layout 3, which is read to be made anew alone, else KEFS_OK. */
+int refuse_layout_3(const struct kefs_image *image);
+/* Opens an image of any layout to read, and waits for nobody: for kefscheck. Of layout 3 its pages are read, and no more is done. */
+int open_older(kefs_image **to, const char *path);
 /* Puts a copy of what an opening reads of an image in the place of its mapping, for a reader: KEFS_OK or the image's result. */
 int copy_head(struct kefs_image *image);
 /* Room for plans of this layout, and for what its commits take, which takes none before it is touched: KEFS_OK or ENOMEM. */
@@ -305,14 +339,18 @@ int make_rooms(struct kefs_image *image);
 /* Carries out the journal of a host file that is settled: KEFS_OK or a result. A reader makes no call of the plan: it reads through the
    journal, and commits nothing. */
 int recover(struct kefs_image *image);
+/* Room for so many pages that are taken: KEFS_OK or ENOMEM. */
+int new_taken(struct taken *taken, size_t room);
+void drop_taken(struct taken *taken, size_t room);
 /* Lets go the room that plans had. */
 void drop_rooms(struct kefs_image *image);
-/* Settles and recovers a halted image, lets the pages of the commit that failed go, and readers in: KEFS_OK, or the image's result. */
+/* Settles and recovers a halted image, ends the commit that failed, and lets readers in: KEFS_OK, or the image's result. */
 int recover_in_place(struct kefs_image *image);
 
 /* waits.c */
 
 /* Of a clock that is never set back. */
+long microseconds(void);
 long milliseconds(void);
 /* A wait that ends at some millisecond, and how many microseconds it sleeps next. */
 struct wait { long begin, end, pause; };
@@ -374,8 +412,46 @@ int fill_slotted(struct kefs_image *image);
 
 /* commits.c */
 
-/* Lets the pages of a commit go that are taken. */
+static inline uint32_t order_of(const struct famsync_page *page) { return (uint32_t)page->file << 20 | page->page; }
+int check_ranges(struct kefs_image *image, const struct kefs_range *ranges, size_t count);
+/* Takes the dirty pages of these ranges, in the order of files and pages: KEFS_OK or the image's result. Where `may_compare`, pages that
+   are as they are durable are left out if that makes them few enough. */
+int take_pages(struct kefs_image *image, const struct kefs_range *ranges, size_t count, int may_compare);
+int are_too_many(struct kefs_image *image);
+/* Lets the pages go that are taken, dirty again where it is not done. */
 void let_all_go(struct kefs_image *image, int done);
+/* Makes these pages durable: KEFS_OK or the image's result. It may be halted then. */
+int commit_taken(struct kefs_image *image, struct taken *taken);
+/* Brings all pages of a pool home: KEFS_OK, also where it has none, or the image's result. It may be halted then. */
+int tidy(struct kefs_image *image);
+/* Does so where fewer places are free than a commit has pages. */
+int make_room_for(struct kefs_image *image, size_t pages);
+/* Of a commit after which the image is halted: recovers at once where the device had no room. KEFS_OK where the commit is durable, or the result. */
+int go_on(struct kefs_image *image, int result);
+/* Ends a commit: lets its pages go, and counts it where it is done. */
+void end_commit(struct kefs_image *image, int done);
+
+/* tidy.c */
+
+/* A plan that leaves no page in the pool: KEFS_OK or the image's result. */
+int plan_tidy(struct kefs_image *image, struct famsync_handle *handle);
+
+/* starts.c */
+
+void begin_starts(struct kefs_image *image);
+/* Lets the room for started pages go. */
+void drop_starts(struct kefs_image *image);
+/* Waits until the calls of the commit that is running are over. */
+void await_run(struct kefs_image *image);
+/* Makes all that was started durable, while no other call comes: KEFS_OK or the image's result. */
+int commit_started(struct kefs_image *image);
+/* Says what became of the started pages that are running, or does nothing where none are. */
+void end_running(struct kefs_image *image, int done);
+/* The bytes of a page as it was started last, if it is not durable yet, or NULL. */
+const unsigned char *started_bytes(const struct kefs_image *image, const struct mapping *mapping, size_t k);
+/* Lets other threads start commits while started ones are running, and no longer. */
+static inline void let_in(struct kefs_image *image) { if (image->starts.is_running) pthread_mutex_unlock(&image->lock); }
+static inline void keep_out(struct kefs_image *image) { if (image->starts.is_running) pthread_mutex_lock(&image->lock); }
 
 /* backup.c */
 
@@ -388,9 +464,11 @@ void note_homes(struct kefs_image *image);
 void *new_memory(size_t length);
 void drop_memory(const void *at, size_t length);
 
-/* Takes the image's lock for a call: KEFS_OK, or the reason why there can be no call. `enter_halted` takes a halted image too. */
+/* Takes the image's lock for a call: KEFS_OK, or the reason why there can be no call. `enter_halted` takes a halted image too, and `enter_beside` does so while
+   started commits are running. */
 int enter(struct kefs_image *image);
 int enter_halted(struct kefs_image *image);
+int enter_beside(struct kefs_image *image);
 /* Lets the lock go, and returns the result. */
 int leave(struct kefs_image *image, int result);
 

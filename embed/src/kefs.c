@@ -10,7 +10,7 @@
 /* Turns */
 
 /* A thread that is cancelled in a call would leave the lock behind. */
-int enter_halted(struct kefs_image *image) {
+int enter_beside(struct kefs_image *image) {
   int cancel;
   if (image == NULL) return KEFS_BAD_ARGUMENT;
   if (is_forked(image)) return KEFS_FORKED;
@@ -18,6 +18,12 @@ int enter_halted(struct kefs_image *image) {
   pthread_mutex_lock(&image->lock);
   image->cancel = cancel;
   return KEFS_OK;
+}
+
+int enter_halted(struct kefs_image *image) {
+  int result = enter_beside(image);
+  if (result == KEFS_OK) await_run(image);
+  return result;
 }
 
 int enter(struct kefs_image *image) {
@@ -71,8 +77,8 @@ static void drop_mappings(struct kefs_image *image, int forked) {
 /* The mapped files go before the userfaultfd, without which pages that were not read would be zeros; and the lock last, since another process writes the file from
    then on. */
 static int close_image(struct kefs_image *image) {
+  int forked = image->generation != 0 && is_forked(image), result = forked ? KEFS_FORKED : image->halted ? KEFS_OK : commit_started(image);
   remove_owner(image);
-  int forked = image->generation != 0 && is_forked(image);
   drop_mappings(image, forked);
   end_tracking(image);
   end_snapshot(image);
@@ -81,9 +87,9 @@ static int close_image(struct kefs_image *image) {
   drop_memory(image->roomless, room_bytes(image));
   if (image->fd >= 0 && !forked) end_turns(image), flock(image->fd, LOCK_UN); /* a child that still has the descriptor would hold the locks */
   if (image->fd >= 0) close(image->fd);
-  if (!forked) pthread_mutex_destroy(&image->lock), pthread_mutex_destroy(&image->backups);
+  if (!forked) pthread_mutex_destroy(&image->lock), pthread_mutex_destroy(&image->backups), pthread_cond_destroy(&image->starts.over);
   free(image);
-  return forked ? KEFS_FORKED : KEFS_OK;
+  return result;
 }
 
 int kefs_close(kefs_image *image) {
@@ -139,6 +145,8 @@ static int map_file(struct kefs_image *image, unsigned file, void *wanted) {
   struct mapping *mapping = &image->mappings[file];
   if ((uintptr_t)wanted % PAGE != 0) return fail(image, EINVAL, "%p is not the beginning of a page", wanted);
   if (image->files[file].length == 0) return KEFS_OK;
+  int result = mapping->at == NULL ? commit_started(image) : KEFS_OK; /* pages of the file may be started, and are read when they are durable */
+  if (result != KEFS_OK) return result;
   if (mapping->at == NULL) return new_mapping(image, file, wanted);
   return wanted == NULL || wanted == mapping->at ? KEFS_OK : fail(image, EEXIST, "file %u is mapped at %p", file, (void *)mapping->at);
 }
@@ -180,7 +188,7 @@ int kefs_stat(kefs_image *image, struct kefs_stat *to) {
   size_t size = to->size;
   *to = image->stat;
   to->size = size;
-  to->most_pages = (uint32_t)most_pages(&image->layout);
+  to->most_pages = (uint32_t)places_of(&image->layout);
   to->tracker = names[image->tracker];
   to->lazy = (uint32_t)image->lazy;
   to->layout = image->layout.number;

@@ -2,7 +2,7 @@
 #include "internal.h"
 #include <string.h>
 
-/* Layout 2 has one journal, layout 3 two in turn, and layout 4 a pool. */
+/* Layout 2 has one journal, layout 3, of which pages are read alone, two in turn, and layout 4 a pool. */
 static const struct layout LAYOUT_2 = {2, "FAMSYNC2", 1, 2, {0, 3}, 8195, 0, 0}, LAYOUT_3 = {3, "FAMSYNC3", 9, 16, {24, 8216}, 16408, 0, 0};
 
 enum { BLOCK_SLOTS = 504, MOST_BLOCKS = 2048, MOST_DIRECTORY = 256, BLOCK_SECTORS = 8, POOL_GATE = 8, POOL_FRONT = 16, ENTRY = 256, PAGE_ENTRIES = 16 };
@@ -41,8 +41,6 @@ int is_same_layout(const struct layout *one, const struct layout *other) {
 }
 
 size_t places_of(const struct layout *layout) { return layout->blocks == 0 ? JOURNAL_PAGES : 2 * (size_t)BLOCK_SLOTS * layout->blocks; }
-
-size_t most_pages(const struct layout *layout) { return layout->blocks == 0 ? JOURNAL_PAGES : (size_t)BLOCK_SLOTS * layout->blocks; }
 
 uint64_t home_pages(const struct kefs_image *image) {
   if (image->sectors < image->layout.homes) return 0;
@@ -150,8 +148,12 @@ void copy_durable_page(struct kefs_image *image, uint32_t home, unsigned char *t
   memcpy(to, sector_at(image, sector), PAGE);
 }
 
-void copy_durable(const struct mapping *mapping, size_t k, unsigned char *to) {
+void put_end(const struct mapping *mapping, size_t k, unsigned char *page) {
   size_t left = mapping->file.length - k * PAGE, inside = left < PAGE ? left : PAGE;
+  memset(page + inside, 0, PAGE - inside);
+}
+
+void copy_durable(const struct mapping *mapping, size_t k, unsigned char *to) {
   copy_durable_page(mapping->image, home_of_page(&mapping->file, k), to);
-  memset(to + inside, 0, PAGE - inside);
+  put_end(mapping, k, to);
 }

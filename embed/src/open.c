@@ -13,7 +13,7 @@
 #include <unistd.h>
 
 /* What an opening is given. */
-struct opening { const char *path; unsigned flags; struct kefs_options options; };
+struct opening { const char *path; unsigned flags; int takes_layout_3; struct kefs_options options; };
 
 /* What the options of versions 1.0 and 1.1 had. */
 enum { OLD_OPTIONS = offsetof(struct kefs_options, pool) };
@@ -271,24 +271,34 @@ static int new_heap(struct heap *heap, const struct layout *layout) {
   return heap->at != NULL;
 }
 
+int new_taken(struct taken *taken, size_t room) {
+  *taken = (struct taken){.pages = new_memory(room * sizeof *taken->pages), .bytes = new_memory(room * sizeof *taken->bytes)};
+  return taken->pages == NULL || taken->bytes == NULL ? ENOMEM : KEFS_OK;
+}
+
+void drop_taken(struct taken *taken, size_t room) {
+  drop_memory(taken->pages, room * sizeof *taken->pages);
+  drop_memory(taken->bytes, room * sizeof *taken->bytes);
+  *taken = (struct taken){0};
+}
+
 int make_rooms(struct kefs_image *image) {
   const struct layout *layout = &image->layout;
   size_t room = layout->blocks == 0 ? (size_t)FAMSYNC_ROOM : (size_t)FAMSYNC_ROOM_OF_BLOCK * layout->blocks;
   drop_rooms(image);
   int has_plans = new_plan(&image->scratch, room) && new_plan(&image->plan, room) && new_heap(&image->heap, layout);
   int has_places = new_places(layout, &image->places) == KEFS_OK;
-  image->pages = new_memory(image->places.room * sizeof *image->pages);
-  image->page_bytes = new_memory(image->places.room * sizeof *image->page_bytes);
-  return has_plans && has_places && image->pages != NULL && image->page_bytes != NULL ? KEFS_OK : fail(image, ENOMEM, "room for plans");
+  int has_taken = new_taken(&image->taken, image->places.room) == KEFS_OK;
+  return has_plans && has_places && has_taken ? KEFS_OK : fail(image, ENOMEM, "room for plans");
 }
 
 void drop_rooms(struct kefs_image *image) {
   drop_plan(&image->scratch), drop_plan(&image->plan);
   drop_memory(image->heap.at, image->heap.length);
-  drop_memory(image->pages, image->places.room * sizeof *image->pages);
-  drop_memory(image->page_bytes, image->places.room * sizeof *image->page_bytes);
+  drop_taken(&image->taken, image->places.room);
+  drop_starts(image);
   drop_places(&image->places);
-  image->heap = (struct heap){0}, image->pages = NULL, image->page_bytes = NULL;
+  image->heap = (struct heap){0};
 }
 
 static int result_of(uint32_t answer) {
@@ -300,8 +310,15 @@ static int result_of(uint32_t answer) {
   }
 }
 
+/* Of layout 3, which is read alone, no plan is asked. */
+static int check_layout_3(struct kefs_image *image) {
+  struct finding finding = check_store(image);
+  return finding.result == KEFS_OK ? KEFS_OK : fail(image, finding.result, "%s: %s", image->path, finding.words);
+}
+
 int recover(struct kefs_image *image) {
   struct plan *scratch = &image->scratch, *plan = &image->plan;
+  if (image->layout.number == 3) return check_layout_3(image);
   begin_heap(&image->heap);
   uint32_t answer = famsync_open(&image->handle, image->bytes, image->sectors, scratch->calls, scratch->room, scratch->rows, scratch->room, &plan->used,
                                  plan->calls, plan->room, plan->rows, plan->room);
@@ -313,11 +330,16 @@ int recover(struct kefs_image *image) {
   return result == KEFS_OK ? carry_out(image) : result;
 }
 
+int refuse_layout_3(const struct kefs_image *image) {
+  return image->layout.number != 3 || image->takes_layout_3 ? KEFS_OK : fail(image, KEFS_NOT_IMAGE, "%s: %s", image->path, OF_LAYOUT_3);
+}
+
 static int read_image(struct kefs_image *image) {
   if (image->snapshot != NULL) return read_snapshot(image);
   int result = settle(image);
   if (result == KEFS_OK) result = map_host_file(image);
   if (result == KEFS_OK) result = secure_head(image);
+  if (result == KEFS_OK) result = refuse_layout_3(image);
   if (result == KEFS_OK) result = make_rooms(image);
   if (result == KEFS_OK) result = read_head(image);
   if (result == KEFS_OK) result = recover(image);
@@ -334,6 +356,8 @@ static struct kefs_image *new_image(void) {
   if (image == NULL) return NULL;
   image->serial = new_serial();
   image->fd = image->faults = image->pagemap = -1;
+  image->planned = &image->taken;
+  begin_starts(image);
   pthread_mutex_init(&image->lock, NULL);
   pthread_mutex_init(&image->backups, NULL);
   return image;
@@ -369,7 +393,7 @@ static int check_created(const struct kefs_image *image, const struct opening *o
 /* The path and the reason of a refusal, as kefscheck has it. */
 static void say_why(struct kefs_image *image, const struct opening *opening, int result) {
   if ((result != KEFS_NOT_IMAGE && result != KEFS_BAD_JOURNAL) || image->bytes == NULL || image->layout.number == 0) return;
-  struct finding finding = check_image(image);
+  struct finding finding = opening->takes_layout_3 ? check_store(image) : check_image(image);
   if (finding.result == result) fail(image, result, "%s: %s", opening->path, finding.words);
 }
 
@@ -378,6 +402,7 @@ static int open_image(struct kefs_image *image, const struct opening *opening) {
   int result = this_generation(&image->generation);
   if (result != KEFS_OK) return fail(image, result, "beginning");
   image->path = opening->path;
+  image->takes_layout_3 = opening->takes_layout_3;
   image->read_only = (opening->flags & (KEFS_RDONLY | KEFS_SNAPSHOT)) != 0;
   int is_snapshot = (opening->flags & KEFS_SNAPSHOT) != 0;
   if (is_snapshot) result = begin_snapshot(image, limit_of(opening));
@@ -403,25 +428,35 @@ static int open_new(kefs_image **to, const struct opening *opening) {
   return result;
 }
 
-int kefs_open_with(kefs_image **to, const char *path, unsigned flags, const struct kefs_options *options) {
-  int cancel, result = check_opening(to, path, flags, options);
-  if (result != KEFS_OK) return result;
-  struct opening opening = {path, flags, {0}};
-  if (options != NULL) memcpy(&opening.options, options, options->size < sizeof *options ? options->size : sizeof *options);
+static int open_as(kefs_image **to, const struct opening *opening) {
+  int cancel;
   pthread_setcancelstate(PTHREAD_CANCEL_DISABLE, &cancel);
-  result = open_new(to, &opening);
+  int result = open_new(to, opening);
   pthread_setcancelstate(cancel, &cancel);
   return result;
 }
 
+int kefs_open_with(kefs_image **to, const char *path, unsigned flags, const struct kefs_options *options) {
+  int result = check_opening(to, path, flags, options);
+  if (result != KEFS_OK) return result;
+  struct opening opening = {.path = path, .flags = flags};
+  if (options != NULL) memcpy(&opening.options, options, options->size < sizeof *options ? options->size : sizeof *options);
+  return open_as(to, &opening);
+}
+
 int kefs_open(kefs_image **to, const char *path, unsigned flags) { return kefs_open_with(to, path, flags, NULL); }
+
+int open_older(kefs_image **to, const char *path) {
+  *to = NULL;
+  return open_as(to, &(struct opening){.path = path, .flags = KEFS_RDONLY | KEFS_NOWAIT, .takes_layout_3 = 1});
+}
 
 /* Recovery in place */
 
 /* A plan ends in the gate's write and a sync, in either layout. Before these the commit cannot stand; after one of them failed, the gate tells. */
 static enum outcome outcome_of(const struct kefs_image *image) {
   const struct plan *plan = &image->plan;
-  if (image->taken == 0 || image->failed + 2 < plan->used) return IS_BEFORE;
+  if (image->planned->count == 0 || image->failed + 2 < plan->used) return IS_BEFORE;
   return gate_says(image, plan->rows[plan->used - 2]) ? IS_AFTER : IS_BEFORE;
 }
 
@@ -432,7 +467,7 @@ int recover_in_place(struct kefs_image *image) {
   if (image->outcome == IN_DOUBT) image->outcome = outcome_of(image);
   result = recover(image);
   if (result != KEFS_OK) return result;
-  let_all_go(image, image->outcome == IS_AFTER);
+  end_commit(image, image->outcome == IS_AFTER);
   image->halted = 0;
   image->turns.is_new = 1;
   end_change(image);

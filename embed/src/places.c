@@ -102,12 +102,10 @@ const struct places *image_places(struct kefs_image *image) {
   return &image->places;
 }
 
-/* A commit of all slots would leave none for the next one. */
 size_t free_places(struct kefs_image *image) {
   if (image->layout.blocks == 0) return JOURNAL_PAGES;
   list_own(image);
-  size_t free = image->places.room - image->places.taken;
-  return free < image->places.room ? free : free - 1;
+  return image->places.room - image->places.taken;
 }
 
 size_t standing_sector(struct kefs_image *image, uint32_t home) {

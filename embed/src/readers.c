@@ -124,7 +124,10 @@ enum { LIST_BITS = 31 };
 off_t list_of(off_t state) { return LISTS + ((state & (REACH - 1)) << LIST_BITS); }
 static off_t end_of_list(off_t state) { return list_of(state) + ((off_t)1 << LIST_BITS) - 1; }
 
-static uint32_t home_taken(const struct kefs_image *image, size_t i) { return home_of_page(&image->files[image->pages[i].file], image->pages[i].page); }
+static uint32_t home_taken(const struct kefs_image *image, size_t i) {
+  const struct famsync_page *page = &image->planned->pages[i];
+  return home_of_page(&image->files[page->file], page->page);
+}
 
 int has_dropped(const struct kefs_image *image) {
   for (size_t i = 0; i < image->plan.used && image->layout.blocks > 0; i++)
@@ -135,7 +138,7 @@ int has_dropped(const struct kefs_image *image) {
 /* Neighbouring homes of the pages that a commit has taken, from page `i` of it on. */
 static size_t run_of(const struct kefs_image *image, size_t i) {
   size_t end = i + 1;
-  while (end < image->taken && home_taken(image, end) == home_taken(image, end - 1) + 1) end++;
+  while (end < image->planned->count && home_taken(image, end) == home_taken(image, end - 1) + 1) end++;
   return end - i;
 }
 
@@ -143,12 +146,12 @@ static size_t run_of(const struct kefs_image *image, size_t i) {
 static int tell_homes(const struct kefs_image *image, off_t state) {
   int fd = image->fd, number = set_locks(fd, F_UNLCK, list_of(state), (off_t)1 << LIST_BITS);
   size_t i = 0;
-  for (int run = 0; run < MOST_RUNS && i < image->taken && number == KEFS_OK; run++) {
+  for (int run = 0; run < MOST_RUNS && i < image->planned->count && number == KEFS_OK; run++) {
     size_t homes = run_of(image, i);
     number = set_locks(fd, F_WRLCK, list_of(state) + home_taken(image, i), (off_t)homes);
     i += homes;
   }
-  return (i < image->taken || has_dropped(image)) && number == KEFS_OK ? set_lock(fd, F_WRLCK, end_of_list(state)) : number;
+  return (i < image->planned->count || has_dropped(image)) && number == KEFS_OK ? set_lock(fd, F_WRLCK, end_of_list(state)) : number;
 }
 
 /* The list is there before the state is, and INTENT goes last: a reader whose turn begins finds both. Where the list can't be had, the state is no next one of

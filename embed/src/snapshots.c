@@ -174,6 +174,7 @@ static void end_reading(struct reading *reading) {
 /* The kind of an image never changes, so that it is read before any turn: room for the copy is made by it. */
 static int check_kind(struct kefs_image *image) {
   int result = read_kind(image);
+  if (result == KEFS_OK) result = refuse_layout_3(image);
   if (result != KEFS_OK || image->sectors >= least_sectors(&image->layout)) return result;
   return fail(image, KEFS_NOT_IMAGE, "%s: it has %zu sectors, under %zu", image->path, image->sectors, least_sectors(&image->layout));
 }

@@ -19,11 +19,13 @@
 
 enum { SHORTEST = 20, SHORT = 2000, LONGEST = 250000 }; /* microseconds between two looks: at first, at most by doubling, and at most */
 
-long milliseconds(void) {
+long microseconds(void) {
   struct timespec now;
   clock_gettime(CLOCK_MONOTONIC, &now);
-  return now.tv_sec * 1000 + now.tv_nsec / 1000000;
+  return now.tv_sec * 1000000 + now.tv_nsec / 1000;
 }
+
+long milliseconds(void) { return microseconds() / 1000; }
 
 struct wait wait_of(long limit) {
   long now = milliseconds();

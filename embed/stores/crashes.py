@@ -4,7 +4,7 @@ OUT holds what `run` builds. Of each store STATES states are tried over kefs, in
 a third of them in each model of powercuts.py, in rounds of one recorded run each. A state is bad where `workload check` finds it as after no transaction,
 where the store refuses, crashes or hangs, and where a transaction is missing that was acknowledged. Alone a store may repair itself first. Over kefs it
 may not; the state is read twice, apart from the library (tools/imagecat) and by kefsrun, and has to be the same. Images are of LAYOUT: 4, as kefsrun
-makes them, 3 or 2.
+makes them, or 2.
 
 The last row is a control: a disk that ignores one sync in three, over which no library keeps anything whole. Where no state of it is bad this
 test is blind. The exit status is 1 then, or where a state over kefs is bad, else 0.

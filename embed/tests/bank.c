@@ -2,8 +2,9 @@
    kefs_commit makes it durable. `bank IMAGE TRACKER run SEED` transfers until it is killed and writes the number of each
    transfer that was acknowledged. `bank IMAGE TRACKER check` tells the ledger's number and whether both files fit: the
    accounts sum to 0, and the ledger's digest is the sum of each account times its place, which half a transfer would
-   change. TRACKER is scan, signal, caller or lazy. */
+   change. TRACKER is scan, signal, caller or lazy, or threads: by scan, of several threads that start their transfers and wait for them. */
 #include "kefs.h"
+#include <pthread.h>
 #include <stdio.h>
 #include <stdlib.h>
 #include <string.h>
@@ -24,8 +25,14 @@ static int check(const int64_t *accounts, const struct ledger *ledger) {
   return 0;
 }
 
+static int acknowledge(uint64_t number) {
+  char line[32];
+  int n = sprintf(line, "%lu\n", (unsigned long)number);
+  return write(1, line, (size_t)n) == n;
+}
+
 /* The stores are named for the one tracker that has to be told of them. */
-static int transfer(kefs_image *image, int64_t *accounts, struct ledger *ledger) {
+static int make_transfer(kefs_image *image, int64_t *accounts, struct ledger *ledger) {
   uint64_t a = (uint64_t)random() % ACCOUNTS, b = (uint64_t)random() % ACCOUNTS, amount = (uint64_t)random() % 1000;
   accounts[a] -= (int64_t)amount;
   accounts[b] += (int64_t)amount;
@@ -33,18 +40,42 @@ static int transfer(kefs_image *image, int64_t *accounts, struct ledger *ledger)
   ledger->number++, ledger->from = a, ledger->to = b, ledger->amount = amount;
   int result = kefs_mark_dirty(image, &accounts[a], sizeof *accounts);
   if (result == KEFS_OK) result = kefs_mark_dirty(image, &accounts[b], sizeof *accounts);
-  if (result == KEFS_OK) result = kefs_mark_dirty(image, ledger, sizeof *ledger);
-  return result == KEFS_OK ? kefs_commit(image, NULL, 0, NULL) : result;
+  return result == KEFS_OK ? kefs_mark_dirty(image, ledger, sizeof *ledger) : result;
 }
 
 static int run(kefs_image *image, int64_t *accounts, struct ledger *ledger) {
   for (;;) {
-    char line[32];
-    int result = transfer(image, accounts, ledger);
+    int result = make_transfer(image, accounts, ledger);
+    if (result == KEFS_OK) result = kefs_commit(image, NULL, 0, NULL);
     if (result != KEFS_OK) return failed("transfer", result);
-    int n = sprintf(line, "%lu\n", (unsigned long)ledger->number);
-    if (write(1, line, (size_t)n) != n) return 1;
+    if (!acknowledge(ledger->number)) return 1;
   }
+}
+
+enum { TELLERS = 8 };
+struct bank { kefs_image *image; int64_t *accounts; struct ledger *ledger; pthread_mutex_t lock; };
+
+static void *tell(void *of) {
+  struct bank *bank = of;
+  for (;;) {
+    uint64_t ticket;
+    pthread_mutex_lock(&bank->lock);
+    int result = make_transfer(bank->image, bank->accounts, bank->ledger);
+    uint64_t number = bank->ledger->number;
+    if (result == KEFS_OK) result = kefs_commit_start(bank->image, NULL, 0, NULL, &ticket);
+    pthread_mutex_unlock(&bank->lock);
+    if (result == KEFS_OK) result = kefs_commit_wait(bank->image, ticket);
+    if (result != KEFS_OK || !acknowledge(number)) exit(failed("transfer", result));
+  }
+}
+
+static int run_threads(kefs_image *image, int64_t *accounts, struct ledger *ledger) {
+  static struct bank bank = {.lock = PTHREAD_MUTEX_INITIALIZER};
+  pthread_t tellers[TELLERS];
+  bank.image = image, bank.accounts = accounts, bank.ledger = ledger;
+  for (int t = 0; t < TELLERS; t++)
+    if (pthread_create(&tellers[t], NULL, tell, &bank) != 0) return 1;
+  return pthread_join(tellers[0], NULL);
 }
 
 static unsigned flags_of(const char *tracker) {
@@ -62,5 +93,5 @@ int main(int argc, char **argv) {
   if (result != KEFS_OK) return failed(argv[1], result);
   if (strcmp(argv[3], "check") == 0) return check(accounts, ledger);
   srandom((unsigned)atoi(argv[4]));
-  return run(image, accounts, ledger);
+  return strcmp(argv[2], "threads") == 0 ? run_threads(image, accounts, ledger) : run(image, accounts, ledger);
 }

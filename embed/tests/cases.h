@@ -1,5 +1,5 @@
 /* What programs of cases share: each case is a process of its own, which has to end well and in time, once or with each tracker that the system has. Images are of
-   layout 3, or of that which the environment's LAYOUT says, but those that a case itself makes. A program says its name in PROGRAM before it takes this in. */
+   layout 4, or of that which the environment's LAYOUT says, but those that a case itself makes. A program says its name in PROGRAM before it takes this in. */
 #ifndef KEFS_CASES_H
 #define KEFS_CASES_H
 #include "tests.h"

@@ -19,13 +19,13 @@ enum { PAGE = KEFS_PAGE };
 static int checks;
 
 static void check_that(int holds, const char *what, int line) {
-  checks++;
+  __atomic_fetch_add(&checks, 1, __ATOMIC_RELAXED);
   if (!holds) fprintf(stderr, "check.c:%d: not so: %s\n", line, what), exit(1);
 }
 #define CHECK(condition) check_that((condition) != 0, #condition, __LINE__)
 
 static void check_result(int wanted, int result, const char *call, int line) {
-  checks++;
+  __atomic_fetch_add(&checks, 1, __ATOMIC_RELAXED);
   if (result != wanted) fprintf(stderr, "check.c:%d: %s returned %d (%s: %s)\n", line, call, result, kefs_name(result), kefs_strerror(result)), exit(1);
 }
 #define RETURNS(wanted, call) check_result(wanted, call, #call, __LINE__)
@@ -203,7 +203,7 @@ static void ranges_choose_pages(void) {
 }
 
 static void too_many_pages_are_refused_and_not_for_good(void) {
-  int most = image_layout() == 4 ? 2 * BODY_PAGES - 1 : 1023, all = most + 7; /* of a pool all slots but one are free at first */
+  int most = (int)image_sectors()->most, all = most + 7;
   char words[16];
   snprintf(words, sizeof words, "%d", most);
   make_image((uint32_t)all);
@@ -274,6 +274,8 @@ static void a_roll_back_shows_what_is_durable(void) {
   CHECK(a[0] == 2 && a[PAGE] == 4 && a[2 * PAGE] == 1);
   DONE(kefs_close(image));
 }
+
+#include "check_starts.h"
 
 /* Mapping */
 
@@ -468,9 +470,11 @@ static int in_child(void) {
   if (is_mapped_in_child() != 0) return 4;
   size_t n;
   void *at;
+  uint64_t ticket;
   struct kefs_stat stat = {.size = sizeof stat};
   struct kefs_range all = {a, 1};
-  int refused = kefs_commit(image, NULL, 0, NULL) == KEFS_FORKED && kefs_msync(image, a, 1) == KEFS_FORKED && kefs_count_dirty(image, &all, 1, &n) == KEFS_FORKED
+  int refused = kefs_commit_start(image, NULL, 0, NULL, &ticket) == KEFS_FORKED && kefs_commit_wait(image, 0) == KEFS_FORKED
+    && kefs_commit(image, NULL, 0, NULL) == KEFS_FORKED && kefs_msync(image, a, 1) == KEFS_FORKED && kefs_count_dirty(image, &all, 1, &n) == KEFS_FORKED
     && kefs_rollback(image, NULL, 0) == KEFS_FORKED && kefs_mark_dirty(image, a, 1) == KEFS_FORKED && kefs_touch(image, a, 1) == KEFS_FORKED
     && kefs_map(image, 0, NULL, &at, NULL) == KEFS_FORKED && kefs_unmap(image, 0) == KEFS_FORKED && kefs_length(image, 0, &n) == KEFS_FORKED
     && kefs_stat(image, &stat) == KEFS_FORKED;
@@ -649,7 +653,7 @@ static void the_mark_of_another_layout_is_refused(void) {
     char mark[] = "FAMSYNC0";
     mark[7] = (char)(mark[7] + layout);
     write_sector(0, mark);
-    int wanted = layout == image_layout() ? KEFS_OK : KEFS_NOT_IMAGE;
+    int wanted = layout == image_layout() ? KEFS_OK : KEFS_NOT_IMAGE; /* no image is of layout 3 here */
     for (unsigned reading = 0; reading <= KEFS_RDONLY; reading += KEFS_RDONLY) {
       RETURNS(wanted, kefs_open(&image, path, reading));
       if (wanted == KEFS_OK) DONE(kefs_close(image));
@@ -700,6 +704,8 @@ static void results_have_words(void) {
 static void (*const with_each_tracker[])(void) = {
   commits_are_durable, commits_follow_one_another, a_commit_takes_so_many_syncs, pages_that_stay_in_a_journal_are_read_there,
   homes_have_what_was_committed, ranges_choose_pages,
+  started_commits_go_as_one_in_their_newest_form, started_commits_are_not_lost, a_roll_back_goes_to_what_was_started, too_many_pages_are_not_started,
+  threads_wait_for_their_transfers, a_tidy_brings_pages_home, all_slots_may_be_used,
   too_many_pages_are_refused_and_not_for_good, scattered_pages_are_found, a_roll_back_shows_what_is_durable, a_mapping_has_its_file,
   the_place_that_was_asked_for_is_had,
   a_new_mapping_reads_the_open_journal,

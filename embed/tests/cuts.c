@@ -7,8 +7,11 @@
    reached the disk, no later sync writes the others, and reads show them until the system is told to drop what it keeps.
 
    kept     a control: the system keeps what it has, whatever it is told. Some images have to be torn then.
-   blocks   power is cut, and each block of 4,096 bytes that has an unsynced sector may hold any bytes, in all its sectors. Layouts 3
-            and 4 stand that, and layout 2 does not, which is the control: some of its images have to be torn.
+   blocks   power is cut, and each block of 4,096 bytes that has an unsynced sector may hold any bytes, in all its sectors. Layout 4
+            stands that, and layout 2 does not, which is the control: some of its images have to be torn.
+
+   So are commits that are started and waited for: what is left has to hold the files as after some start, of those up to the last one the newest that was waited for or a
+   later one. Some are started between the calls of the commit that runs.
 
    The images are of layout 4, or of that which the environment's LAYOUT says; those that the library makes are of layout 4. Of these some commits find a pool so
    full that they copy pages home. */
@@ -45,6 +48,10 @@ static long calls, failing; /* how many they were, and the one that fails, or 0 
 static int failing_number = EIO, reaching; /* with what, and how many of four dirty sectors reach the disk in a sync that fails */
 static long cuts, bad, failures;
 static unsigned char before[PAGES * PAGE], after[PAGES * PAGE];
+enum { STARTS = 24 };
+static unsigned char states[STARTS + 1][PAGES * PAGE]; /* the files as after so many starts, */
+static int is_living, starts, waited, lets_in;        /* where that is looked at; how many there were, how many were waited for, and whether more may come now */
+static void start_some(void);
 
 static void die(const char *what) { perror(what), exit(1); }
 
@@ -73,7 +80,6 @@ static void use_image(int layout) {
   sectors = homes + BLOCK * (PAGES + (layout == 4 ? DIRECTORY_PAGES : 0)), bytes = SECTOR * sectors;
   memset(used, 0, sizeof used);
   if (layout == 2) use(0, 3 + journals);
-  else if (layout == 3) use(0, 24 + journals), use(8216, 8216 + journals);
   else use(0, 9), use(map[0], map[0] + BLOCK * (1 + SLOTS)), use(map[1], map[1] + BLOCK * (1 + SLOTS));
   use(homes, sectors);
 }
@@ -118,10 +124,17 @@ static int is_held(kefs_image *image, const unsigned char *files) {
   return memcmp(first, files, FIRST_PAGES * PAGE) == 0 && memcmp(second, files + FIRST_PAGES * PAGE, (PAGES - FIRST_PAGES) * PAGE) == 0;
 }
 
+/* After which start the files are, from the first one that they may be after on, or -1. */
+static int start_held(kefs_image *image) {
+  for (int n = waited; n <= starts; n++)
+    if (is_held(image, states[n])) return n;
+  return -1;
+}
+
 static int is_whole(int is_over) {
   kefs_image *image;
   if (kefs_open(&image, "left.img", KEFS_TRACK_CALLER) != KEFS_OK) return 0;
-  int holds = is_held(image, after) || (!is_over && is_held(image, before));
+  int holds = is_living ? start_held(image) >= 0 : is_held(image, after) || (!is_over && is_held(image, before));
   must(kefs_close(image), "left.img");
   return holds;
 }
@@ -141,8 +154,10 @@ static void cut_power(int is_over) {
 
 static int fails(enum kind kind) {
   if (is_cutting && (kind != ANY || seen++ % each == 0)) cut_power(0);
+  if (lets_in && random() % 3 == 0) start_some();
   if (counted != ANY && counted != kind) return 0;
   if (++calls != failing) return 0;
+  lets_in = 0; /* the recovery that may follow keeps the image's lock */
   errno = failing_number;
   return 1;
 }
@@ -288,7 +303,17 @@ static void fill_pool(void) {
   for (size_t k = 0; k < PAGES; k++) put_bytes(map_of_pool(0) + BLOCK * (1 + k), after + k * PAGE, PAGE);
 }
 
-/* A commit to it copies the pages home that it does not take. */
+static long tidied;
+
+/* Nothing of the files is another one before, within and after it. */
+static void tidy_some(void) {
+  is_cutting = 1;
+  must(kefs_tidy(image), "tidy");
+  is_cutting = 0, tidied++;
+  cut_power(1);
+}
+
+/* A commit to it copies the pages home that it does not take, and a tidy all. */
 static void try_full_pools(int commits) {
   struct kefs_stat stat = {.size = sizeof stat};
   each = 61, most_stored = 4;
@@ -300,6 +325,12 @@ static void try_full_pools(int commits) {
     commit_some(1);
     must(kefs_stat(image, &stat), "stat");
     EXPECT(stat.written_bytes > (uint64_t)FULL / 2 * PAGE);
+    close_image();
+    fill_pool();
+    must(try_opening(), PATH);
+    memcpy(before, after, sizeof before);
+    tidy_some();
+    commit_some(1);
   }
   each = 1, most_stored = PAGES;
 }
@@ -378,6 +409,25 @@ static int try_failure(long n, long m, enum kind kind, int in_place) {
   return 1;
 }
 
+/* Call `n` of a tidy fails: 0 where it has no such call. */
+static int try_failing_tidy(long n, int number) {
+  int stands = 9;
+  commit_some(0);
+  memcpy(before, after, sizeof before);
+  reaching = (int)(random() % 3) * 2;
+  calls = 0, failing = n, failing_number = number, is_cutting = 1;
+  int result = kefs_tidy(image), is_tried = calls >= n;
+  failing = 0, failing_number = EIO;
+  EXPECT(result == (!is_tried ? KEFS_OK : number == EIO ? KEFS_DEVICE : number));
+  if (result == KEFS_DEVICE) must(kefs_recover(image, &stands), "recover");
+  EXPECT(result != KEFS_DEVICE || stands == KEFS_BEFORE);
+  is_cutting = 0;
+  cut_power(1);
+  commit_some(1);
+  failures += is_tried;
+  return is_tried;
+}
+
 /* A device without room is recovered from at once: the commit is refused, or stands. */
 static int try_full_device(long n) {
   static unsigned char stored[PAGES * PAGE];
@@ -403,6 +453,118 @@ static void try_failures(int commits) {
     for (int tried = 0; tried < 2 * KINDS; tried++)
       for (long n = 1; try_failure(n, m, (enum kind)(tried / 2), tried % 2);) n++;
   for (long n = 1; model == DROPS && try_full_device(n);) n++;
+  for (int i = 0; i < 6 && image_layout() == 4; i++)
+    for (long n = 1; try_failing_tidy(n, i % 2 == 0 ? EIO : ENOSPC);) n++;
+}
+
+/* Starts */
+
+static uint64_t tickets[STARTS + 1];
+static long lives, joined;
+
+static void start_pages(int first, int end) {
+  struct kefs_range range = {page_at(first), (size_t)(end - first) * PAGE};
+  memcpy(states[starts + 1], states[starts], sizeof *states);
+  starts++;
+  for (int k = first; k < end; k++) memcpy(states[starts] + k * PAGE, page_at(k), PAGE);
+  must(kefs_commit_start(image, &range, 1, NULL, &tickets[starts]), "start");
+}
+
+/* Stores, and starts pages of file 0 or of file 1. */
+static void start_some(void) {
+  int kept = watched;
+  if (starts == STARTS) return;
+  watched = -1;
+  for (int n = 1 + (int)(random() % 4); n > 0; n--) page_at((int)(random() % PAGES))[random() % PAGE] = (unsigned char)random();
+  int first = (int)(random() % PAGES), most = first < FIRST_PAGES ? FIRST_PAGES : PAGES;
+  start_pages(first, first + 1 + (int)(random() % (most - first)));
+  watched = kept;
+}
+
+/* Waits for a start: KEFS_OK or the result. */
+static int wait_some(int n) {
+  lets_in = is_cutting = 1;
+  int before_it = starts, result = kefs_commit_wait(image, tickets[n]);
+  lets_in = is_cutting = 0;
+  joined += starts - before_it;
+  if (result == KEFS_OK && waited < n) waited = n;
+  cut_power(0);
+  return result;
+}
+
+static void begin_life(void) {
+  for (int k = 0; k < PAGES; k++) memcpy(states[0] + k * PAGE, page_at(k), PAGE);
+  starts = waited = 0, is_living = 1;
+  tickets[0] = 0;
+}
+
+/* All that was started is waited for, and nothing else of the files is stored to. */
+static void end_life(void) {
+  for (int k = 0; k < PAGES; k++) memcpy(page_at(k), states[starts] + k * PAGE, PAGE);
+  must(kefs_commit(image, NULL, 0, NULL), "commit");
+  waited = starts;
+  cut_power(0);
+  memcpy(after, states[starts], sizeof after), memcpy(before, after, sizeof before);
+  is_living = 0, lives++;
+}
+
+static void commit_in_life(void) {
+  memcpy(states[starts + 1], states[starts], sizeof *states);
+  starts++;
+  for (int k = 0; k < PAGES; k++) memcpy(states[starts] + k * PAGE, page_at(k), PAGE);
+  is_cutting = 1;
+  must(kefs_commit(image, NULL, 0, NULL), "commit");
+  is_cutting = 0, waited = starts;
+  cut_power(0);
+}
+
+/* Starts and waits in turn, a commit between them now and then; of the starts some are waited for twice, and others never. */
+static void live(void) {
+  begin_life();
+  while (starts < STARTS - 1) {
+    start_some();
+    if (random() % 2 == 0) must(wait_some(waited + (int)(random() % (starts - waited + 1))), "wait");
+    if (random() % 8 == 0 && starts < STARTS) commit_in_life();
+    if (random() % 8 == 0) tidy_some();
+  }
+  if (random() % 2 == 0) must(wait_some(starts), "wait");
+  end_life();
+}
+
+/* Call `n` of a wait fails: 0 where it has no such call. What went with it is durable or is not, and then goes with the next one. */
+static int live_with_failure(long n, int number) {
+  int stands = 9, result;
+  begin_life();
+  for (int i = 0; i < 3; i++) start_some();
+  calls = 0, failing = n, failing_number = number, reaching = (int)(random() % 3) * 2;
+  int last = starts;
+  result = wait_some(starts);
+  int is_tried = calls >= n, is_after = 0;
+  failing = 0, failing_number = EIO;
+  EXPECT(result == KEFS_OK || (is_tried && result == (number == EIO ? KEFS_DEVICE : number)));
+  if (result == KEFS_DEVICE) {
+    EXPECT(kefs_commit_wait(image, tickets[starts]) == KEFS_HALTED && kefs_commit_start(image, NULL, 0, NULL, &tickets[0]) == KEFS_HALTED);
+    is_cutting = 1;
+    must(kefs_recover(image, &stands), "recover");
+    is_cutting = 0, is_after = stands == KEFS_AFTER;
+    waited = is_after ? last : 0;
+    cut_power(0);
+    EXPECT(!is_after || kefs_commit_wait(image, tickets[last]) == KEFS_OK);
+  }
+  start_some();
+  must(wait_some(starts), "wait");
+  end_life();
+  failures += is_tried;
+  return is_tried;
+}
+
+static void try_starts(int commits) {
+  is_cutting = 0;
+  for (int i = 0; i < commits / 4 + 1; i++) live();
+  for (int i = 0; i < 4; i++)
+    for (long n = 1; live_with_failure(n, i % 2 == 0 ? EIO : ENOSPC);) n++;
+  printf("cuts: layout %d, %ld lives of starts, of which %ld came while others ran, %ld tidied pools, %ld power cuts by then: %ld bad\n", image_layout(), lives, joined, tidied, cuts, bad);
+  EXPECT(joined > lives);
 }
 
 /* Making an image */
@@ -492,6 +654,7 @@ int main(int argc, char **argv) {
   begin();
   for (int i = 0; i < atoi(argv[2]); i++) commit_some(1);
   if (model != BLOCKS || image_layout() != 2) try_failures(atoi(argv[2]));
+  if (model == DROPS || (model == BLOCKS && image_layout() != 2)) try_starts(atoi(argv[2]));
   if (model != KEEPS && image_layout() == 4) try_full_pools(atoi(argv[2]));
   return tell(atoi(argv[2]));
 }

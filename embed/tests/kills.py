@@ -11,7 +11,7 @@ for i in range(rounds):
     text = run.communicate()[0]
     numbers = text[: text.rfind("\n") + 1].split()
     total += len(numbers)
-    acknowledged = int(numbers[-1]) if numbers else acknowledged
+    acknowledged = max(map(int, numbers), default=acknowledged)  # threads' numbers come in any order
     number, state = subprocess.run([bank, image, tracker, "check"], capture_output=True, text=True, check=True).stdout.split()
     torn += state != "whole"
     lost += int(number) < acknowledged

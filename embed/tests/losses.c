@@ -1,5 +1,5 @@
 /* losses FOLDER: what would lose bytes that were committed, or tear what a reader sees, without a word: reads past the page cache into mapped memory, a creation
-   that fails late, zeros that a tool makes holes of. Each case is a process of its own (cases.h). */
+   that fails late, zeros that a tool makes holes of, commits that threads wait for on a device that fails. Each case is a process of its own (cases.h). */
 #define _GNU_SOURCE
 #define PROGRAM "losses"
 #include "cases.h"
@@ -19,6 +19,16 @@ int fsync(int fd) {
   if (before_folder_sync == NULL || fstat(fd, &there) != 0 || !S_ISDIR(there.st_mode)) return (int)syscall(SYS_fsync, fd);
   before_folder_sync();
   return errno = EIO, -1;
+}
+
+/* Syncs of an image that take long, and of which one fails */
+
+static int failing_number;
+
+int fdatasync(int fd) {
+  int number = __atomic_exchange_n(&failing_number, 0, __ATOMIC_SEQ_CST);
+  nanosleep(&(struct timespec){0, 5000000}, NULL);
+  return number == 0 ? (int)syscall(SYS_fdatasync, fd) : (errno = number, -1);
 }
 
 /* Reads past the page cache */
@@ -118,6 +128,65 @@ static void a_read_into_a_fixed_buffer_that_is_marked_is_durable(void) {
   DONE(kefs_close(image));
 }
 
+/* Commits that threads wait for */
+
+enum { WAITERS = 8 };
+struct waiter { pthread_t thread; int page, started, waited; uint64_t ticket; };
+
+static void *start_and_wait(void *of) {
+  struct waiter *it = of;
+  struct kefs_range range = {a + it->page * PAGE, PAGE};
+  it->waited = KEFS_HALTED;
+  it->started = kefs_commit_start(image, &range, 1, NULL, &it->ticket);
+  if (it->started == KEFS_OK) it->waited = kefs_commit_wait(image, it->ticket);
+  return NULL;
+}
+
+/* Has threads wait for a page each, on a device whose next sync fails: how many had this result of their wait. */
+static int wait_in_vain(struct waiter *waiters, int number, int result) {
+  int count = 0;
+  for (int i = 0; i < WAITERS; i++) store(a + i * PAGE, 1), waiters[i] = (struct waiter){.page = i};
+  __atomic_store_n(&failing_number, number, __ATOMIC_SEQ_CST);
+  for (int i = 0; i < WAITERS; i++) CHECK(pthread_create(&waiters[i].thread, NULL, start_and_wait, &waiters[i]) == 0);
+  for (int i = 0; i < WAITERS; i++) pthread_join(waiters[i].thread, NULL), count += waiters[i].waited == result;
+  return count;
+}
+
+static void start_again(const struct waiter *waiters) {
+  uint64_t ticket;
+  for (int i = 0; i < WAITERS; i++) {
+    if (waiters[i].started == KEFS_OK) DONE(kefs_commit_wait(image, waiters[i].ticket));
+    CHECK(waiters[i].started == KEFS_OK || waiters[i].started == KEFS_HALTED);
+  }
+  DONE(kefs_commit_start(image, NULL, 0, NULL, &ticket));
+  DONE(kefs_commit_wait(image, ticket));
+  open_again();
+  for (int i = 0; i < WAITERS; i++) CHECK(a[i * PAGE] == 1);
+  DONE(kefs_close(image));
+}
+
+static void a_failed_sync_fails_all_that_wait(void) {
+  struct waiter waiters[WAITERS];
+  int stands;
+  begin(PAGES, 0);
+  int device = wait_in_vain(waiters, EIO, KEFS_DEVICE), halted = 0;
+  for (int i = 0; i < WAITERS; i++) halted += waiters[i].waited == KEFS_HALTED;
+  CHECK(device > 0 && device + halted == WAITERS);
+  uint64_t ticket;
+  RETURNS(KEFS_HALTED, kefs_commit_start(image, NULL, 0, NULL, &ticket));
+  DONE(kefs_recover(image, &stands));
+  start_again(waiters);
+}
+
+static void a_full_device_refuses_those_that_went_as_one(void) {
+  struct waiter waiters[WAITERS];
+  begin(PAGES, 0);
+  int refused = wait_in_vain(waiters, ENOSPC, ENOSPC), done = 0;
+  for (int i = 0; i < WAITERS; i++) done += waiters[i].waited == KEFS_OK;
+  CHECK(refused > 0 && refused + done == WAITERS);
+  start_again(waiters);
+}
+
 /* Creation */
 
 static void commit_as_another(void) {
@@ -201,7 +270,8 @@ static void committed_zeros_that_are_holes_are_seen(void) {
 }
 
 static const struct test with_each_tracker[] = {
-  TEST(a_read_past_the_page_cache_that_is_marked_is_durable), TEST(a_read_into_a_fixed_buffer_that_is_marked_is_durable)};
+  TEST(a_read_past_the_page_cache_that_is_marked_is_durable), TEST(a_read_into_a_fixed_buffer_that_is_marked_is_durable),
+  TEST(a_failed_sync_fails_all_that_wait), TEST(a_full_device_refuses_those_that_went_as_one)};
 static const struct test once[] = {
   TEST(an_image_that_another_has_keeps_its_name), TEST(a_folder_that_is_not_read_takes_an_image), TEST(committed_zeros_that_are_holes_are_seen)};
 

@@ -123,6 +123,7 @@ static void a_refresh_after_any_commits_is_whole(void) {
         for (int k = from; k < MANY && k <= from + most; k++) a[(size_t)k * PAGE + 8] = (unsigned char)random();
       }
       DONE(kefs_commit(writer, NULL, 0, NULL));
+      if (random() % 6 == 0) DONE(kefs_tidy(writer)); /* a page may get the slot again that it had */
     }
     if (round % 10 == 9) {
       DONE(kefs_close(writer));
@@ -333,7 +334,7 @@ static void a_file_of_another_layout(void) {
   int layout = image_layout();
   begin(PAGES);
   DONE(kefs_close(writer));
-  CHECK(layout_read() == layout && setenv("LAYOUT", layout == 2 ? "3" : "2", 1) == 0);
+  CHECK(layout_read() == layout && setenv("LAYOUT", layout == 2 ? "4" : "2", 1) == 0);
   make_file("new.img", PAGES * PAGE, 7);
   int from = open("new.img", O_RDONLY), to = open(PATH, O_WRONLY);
   CHECK(stat("new.img", &facts) == 0 && is_copied(from, to, (size_t)facts.st_size));

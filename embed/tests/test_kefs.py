@@ -1,5 +1,5 @@
 """python3 -m unittest test_kefs: the Python binding, over KEFS_LIBRARY, and images that it makes against those of images.py and, where
-crates/pagefmt is built, of pagefmt. Images that are not made by the library are of all layouts."""
+crates/pagefmt is built, of pagefmt. Images that are not made by the library are of all layouts that are opened; kefscheck alone takes layout 3."""
 
 import ctypes
 import errno
@@ -29,14 +29,20 @@ def content(path):
 
 
 def live_images(lengths, pages, read_only=()):
-    """Images with these pages, by their homes, in the journal that the gate names: of layout 2, of layout 3 in either one, and of layout 4 in the pool, where homes
-    are later by those of the directory, under either map."""
-    new, pool, later = new_image(lengths, read_only, 3), new_image(lengths, read_only, 4), {4 + home: content for home, content in pages.items()}
-    older = with_open_journal(new_image(lengths, read_only), pages), with_journal(new, pages, 3, opened=False), with_open_journal(new, pages, 3)
-    return *older, with_pool(pool, later, opened=False), with_open_gate(with_pool(pool, later), 4)
+    """Images with these pages, by their homes: of layout 2 in its open journal, and of layout 4 in the pool, where homes are later by those of the directory, under
+    either map."""
+    pool, later = new_image(lengths, read_only, 4), {4 + home: content for home, content in pages.items()}
+    return with_open_journal(new_image(lengths, read_only), pages), with_pool(pool, later, opened=False), with_open_gate(with_pool(pool, later), 4)
 
 
-LIVE_LAYOUTS = (2, 3, 3, 4, 4)
+def images_of_3(lengths, pages, read_only=()):
+    """Images of layout 3 with these pages, by their homes, in either of the journals, which the gate names."""
+    new = new_image(lengths, read_only, 3)
+    return with_journal(new, pages, 3, opened=False), with_open_journal(new, pages, 3)
+
+
+LIVE_LAYOUTS = (2, 4, 4)
+OF_LAYOUT_3 = "it has layout 3; 'kefscheck upgrade OLD NEW' makes one of layout 4 of it"
 
 
 class Images(unittest.TestCase):
@@ -57,7 +63,7 @@ class Images(unittest.TestCase):
         for number, (pool, blocks) in enumerate(((1, 1), (1008, 1), (1009, 2), (0, 4), (2064384, 2048))):
             path = self.path + str(number)
             with kefs.open(path, create=[4097, kefs.File(1 << 20, sparse=True)], pool=pool) as image:
-                self.assertEqual(image.stat()["most_pages"], 504 * blocks)
+                self.assertEqual(image.stat()["most_pages"], 1008 * blocks)
             with open(path, "rb") as file:
                 self.assertEqual(file.read(1024), new_pool_image([], blocks=1)[:520] + blocks.to_bytes(4, "little") + new_pool_image([], blocks=1)[524:1024])
             self.assertEqual(blocks > 4 or content(path) == new_pool_image([4097, 1 << 20], blocks=blocks), True)
@@ -107,7 +113,7 @@ class Images(unittest.TestCase):
                 with image.transaction():
                     for page in range(4050):
                         view[4096 * page] = 1
-            self.assertIn("4031", str(caught.exception))
+            self.assertIn("4032", str(caught.exception))
             self.assertEqual((image.count_dirty(), view[4096]), (0, 0))
 
     def test_ranges(self):
@@ -120,6 +126,55 @@ class Images(unittest.TestCase):
             self.assertEqual(image.commit(view[4096:4097], view[4000:4100], other[4999:]), 3)
             image.rollback(view[8192:])
             self.assertEqual((view[8192], image.count_dirty()), (0, 0))
+
+    def test_a_tidy(self):
+        with self.opened() as image:
+            image.map(0)[0] = 1
+            image.commit()
+            image.map(0)[1] = 2
+            image.tidy()
+            self.assertEqual((image.count_dirty(), subprocess.run([KEFSCHECK, self.path], capture_output=True, text=True).stdout.count(" 0 pages in 4032 slots")), (1, 1))
+        with kefs.open(self.path) as image:
+            self.assertEqual(bytes(image.map(0)[:2]), b"\1\0")
+
+    def test_started_commits(self):
+        with self.opened() as image:
+            view, other = image.map(0), image.map(1)
+            view[0] = view[4096] = other[0] = 1
+            first = image.commit_start(view[:1], other)
+            view[0] = 2
+            second = image.commit_start(view)
+            view[0] = 3
+            self.assertEqual((first.pages, second.pages, image.count_dirty(), image.stat()["commits"]), (2, 2, 1, 0))
+            first.wait(), second.wait(), second.wait()
+            self.assertEqual(image.stat()["commits"], 1)
+            image.rollback()
+            self.assertEqual(view[0], 2)
+            view[1] = 4
+            last = image.commit_start()
+        self.assertRaises(ValueError, last.wait)
+        with kefs.open(self.path) as image:
+            self.assertEqual((bytes(image.map(0)[:2]), image.map(0)[4096], image.map(1)[0]), (b"\2\4", 1, 1))
+
+    def test_threads_wait_together(self):
+        with self.opened() as image:
+            view, lock = image.map(0), threading.Lock()
+
+            def add():
+                for _ in range(30):
+                    with lock:
+                        view[0] += 1
+                        started = image.commit_start()
+                    started.wait()
+
+            threads = [threading.Thread(target=add) for _ in range(8)]
+            for thread in threads:
+                thread.start()
+            for thread in threads:
+                thread.join()
+            self.assertLess(image.stat()["commits"], 240)
+        with kefs.open(self.path) as image:
+            self.assertEqual(image.map(0)[0], 240)
 
     def test_a_caller_names_its_stores(self):
         with self.opened(flags=kefs.TRACK_CALLER | kefs.LAZY) as image:
@@ -266,6 +321,17 @@ class Images(unittest.TestCase):
             self.assertIn("this thread has", str(caught.exception))
         with self.assertRaises(kefs.OtherFiles):
             kefs.open(self.path, create=[6, kefs.File(1 << 30, sparse=True)])
+
+    def test_layout_3_is_not_opened(self):
+        for before in images_of_3([2 * 4096], {1: b"j" * 4096}):
+            with open(self.path, "wb") as file:
+                file.write(before)
+            for flags in (0, kefs.RDONLY, kefs.RDONLY | kefs.LAZY, kefs.SNAPSHOT, kefs.TRACK_SIGNAL):
+                with self.assertRaises(kefs.NotImage) as caught:
+                    kefs.open(self.path, flags)
+                self.assertIn(f"{self.path}: {OF_LAYOUT_3}", str(caught.exception))
+            self.assertRaises(kefs.NotImage, kefs.open, self.path, create=[2 * 4096])
+            self.assertEqual(content(self.path), before)
 
     def test_images_of_all_layouts(self):
         for number, before in enumerate(live_images([2 * 4096, 5000], {1: b"j" * 4096, 3: b"k" * 4096})):
@@ -437,7 +503,7 @@ class Checks(unittest.TestCase):
         files = ["file 0: 8192 bytes, 2 pages from home 0 on", "file 1: 5000 bytes, 2 pages from home 2 on, read-only"]
         files.append("file 2: 0 bytes, 0 pages from home 4 on")
         later = ["file 0: 8192 bytes, 2 pages from home 4 on", "file 1: 5000 bytes, 2 pages from home 6 on, read-only", "file 2: 0 bytes, 0 pages"]
-        journals = [f"journal: {it}, 2 pages" for it in ("open", "0 of two", "1 of two")] + [f"pool: map {it} of two, 2 pages in 4032 slots" for it in (0, 1)]
+        journals = ["journal: open, 2 pages"] + [f"pool: map {it} of two, 2 pages in 4032 slots" for it in (0, 1)]
         for image, layout, journal in zip(images, LIVE_LAYOUTS, journals):
             homes, told = (8, later) if layout == 4 else (4, files)
             self.assertEqual(self.told_of(image), (0, [f"layout: {layout}, {homes} pages", *told, journal, "would open: yes"]))
@@ -445,11 +511,16 @@ class Checks(unittest.TestCase):
             self.assertEqual(self.told("dump", self.path, "1"), (0, bytes(4096) + b"k" * 904, ""))
             self.assertEqual(self.told("dump", self.path, "3")[0], 1)
         self.assertEqual(self.told_of(new_image([1]))[1][2:], ["journal: closed", "would open: yes"])
+        for number, image in enumerate(images_of_3([8192, 5000, 0], {1: b"j" * 4096, 3: b"k" * 4096}, read_only=[1])):
+            last = [f"journal: {number} of two, 2 pages", f"would open: no, KEFS_NOT_IMAGE: {OF_LAYOUT_3}"]
+            self.assertEqual(self.told_of(image), (1, ["layout: 3, 4 pages", *files, *last]))
+            self.assertEqual(self.told("dump", self.path, "0"), (1, b"", f"kefscheck: {self.path}: {self.path}: {OF_LAYOUT_3}: the file has no layout of a store\n"))
 
     def test_an_upgrade(self):
-        images = live_images([8192, 5000, 0], {1: b"j" * 4096, 3: b"k" * 4096}, read_only=[1])
+        given = [8192, 5000, 0], {1: b"j" * 4096, 3: b"k" * 4096}
+        images = *images_of_3(*given, read_only=[1]), *live_images(*given, read_only=[1])
         later = ["file 0: 8192 bytes, 2 pages from home 4 on", "file 1: 5000 bytes, 2 pages from home 6 on, read-only", "file 2: 0 bytes, 0 pages"]
-        for n, (image, layout) in enumerate(zip(images, LIVE_LAYOUTS)):
+        for n, (image, layout) in enumerate(zip(images, (3, 3, *LIVE_LAYOUTS))):
             new = f"{self.path}{n}"
             with open(self.path, "wb") as file:
                 file.write(image)
@@ -488,9 +559,11 @@ class Checks(unittest.TestCase):
                 (journal + 4, b"\4"): "page 0 of the journal has no home",
                 (journal, b"\2\0\0\0\1\0\0\0\1"): "pages 0 and 1 of the journal have one home",
             }
+            try_one = self.try_damaged if layout == 2 else self.try_damaged_3
             for (at, damage), reason in damages.items():
-                self.try_damaged(whole[:at] + damage + whole[at + len(damage) :], at >= journal, reason)
-            self.assertEqual(self.told_of(whole[: 512 * 100])[1], [f"would open: no, KEFS_NOT_IMAGE: it has 100 sectors, under {places.homes}"])
+                try_one(whole[:at] + damage + whole[at + len(damage) :], at >= journal, reason)
+            reason = f"it has 100 sectors, under {places.homes}"
+            self.assertEqual(self.told_of(whole[: 512 * 100])[1], [f"would open: no, KEFS_NOT_IMAGE: {reason if layout == 2 else OF_LAYOUT_3}"])
         self.assertEqual(self.told_of(b"")[1], ["would open: no, KEFS_NOT_IMAGE: it has less than a sector"])
         self.assertIn("upgrade", self.told_of(new_image([1], layout=1))[1][0])
 
@@ -547,6 +620,15 @@ class Checks(unittest.TestCase):
         name = "KEFS_BAD_JOURNAL" if is_journal else "KEFS_NOT_IMAGE"
         self.assertEqual((status, lines[-1].startswith(f"would open: no, {name}: {reason}")), (1, True), lines)
         self.assertRaises(kefs.BadJournal if is_journal else kefs.NotImage, kefs.open, self.path)
+
+    def try_damaged_3(self, image, is_journal, reason):
+        lines = self.told_of(image)[1]
+        told = OF_LAYOUT_3 if image.startswith(b"FAMSYNC3") else reason
+        self.assertEqual(lines[-1].startswith(f"would open: no, KEFS_NOT_IMAGE: {told}"), True, lines)
+        self.assertRaises(kefs.NotImage, kefs.open, self.path)
+        status, _, words = self.told("upgrade", self.path, self.path + "2")
+        kind = "the image's journal has a map that no commit writes" if is_journal else "the file has no layout of a store"
+        self.assertEqual((status, os.path.exists(self.path + "2"), f": {reason}" in words, words.endswith(f": {kind}\n")), (1, False, True, True), words)
 
     def test_other_words(self):
         self.assertEqual(self.told()[0], 2)

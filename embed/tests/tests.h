@@ -1,5 +1,5 @@
-/* What the test programs share: images of the layout that the environment's LAYOUT says, 2, 3 or, where it is not there, 4. kefs_format makes those of
-   layout 4. One of layout 2 or 3 is made of such a one by docs/FORMATS.md alone, and without the library. */
+/* What the test programs share: images of the layout that the environment's LAYOUT says, 2 or, where it is not there, 4. kefs_format makes those of
+   layout 4. One of layout 2 is made of such a one by docs/FORMATS.md alone, and without the library. */
 #ifndef KEFS_TESTS_H
 #define KEFS_TESTS_H
 #include "kefs.h"
@@ -10,8 +10,6 @@
 #include <sys/stat.h>
 #include <unistd.h>
 
-/* How many syncs a commit of layouts 3 and 4 takes after another one. */
-enum { SYNCS_OF_TWO_MAPS = 2 };
 /* Of a new image of layout 4: the blocks of a map, the pages of the directory, and the sectors before its homes. */
 enum { MAP_BLOCKS = 4, DIRECTORY_PAGES = 4, POOL_FRONT = 16 + 8080 * MAP_BLOCKS, BODY_PAGES = 504 * MAP_BLOCKS };
 
@@ -19,15 +17,15 @@ enum { MAP_BLOCKS = 4, DIRECTORY_PAGES = 4, POOL_FRONT = 16 + 8080 * MAP_BLOCKS,
    many syncs a commit takes after another one, and how many pages every one may take; and what an opening writes and how often it syncs where the journal or pool has a page,
    besides pages, and whether it writes these home. */
 struct sectors { long directory, gate, map, homes; unsigned long syncs, most, opening_bytes, opening_syncs; int copies; };
-static const struct sectors SECTORS_2 = {1, 2, 3, 8195, 4, 1023, 512, 2, 1}, SECTORS_3 = {9, 16, 8216, 16408, SYNCS_OF_TWO_MAPS, 1023, 4096 + 512, 2, 1},
-                            SECTORS_4 = {POOL_FRONT, 8, 16 + 4040 * MAP_BLOCKS + 8 * (MAP_BLOCKS - 1), POOL_FRONT + 8 * DIRECTORY_PAGES, SYNCS_OF_TWO_MAPS, BODY_PAGES, 4096 + 512, 2, 0};
+static const struct sectors SECTORS_2 = {1, 2, 3, 8195, 4, 1023, 512, 2, 1},
+                            SECTORS_4 = {POOL_FRONT, 8, 16 + 4040 * MAP_BLOCKS + 8 * (MAP_BLOCKS - 1), POOL_FRONT + 8 * DIRECTORY_PAGES, 2, 2 * BODY_PAGES, 4096 + 512, 2, 0};
 
 static inline int image_layout(void) {
   const char *word = getenv("LAYOUT");
   return word == NULL ? 4 : atoi(word);
 }
 
-static inline const struct sectors *sectors_of(int layout) { return layout == 2 ? &SECTORS_2 : layout == 3 ? &SECTORS_3 : &SECTORS_4; }
+static inline const struct sectors *sectors_of(int layout) { return layout == 2 ? &SECTORS_2 : &SECTORS_4; }
 static inline const struct sectors *image_sectors(void) { return sectors_of(image_layout()); }
 
 static inline int is_zeros(const char *bytes, size_t length) { return bytes[0] == 0 && memcmp(bytes, bytes + 1, length - 1) == 0; }
@@ -46,7 +44,7 @@ static inline void copy_bytes(int from, off_t at, int to, off_t there, off_t len
   }
 }
 
-/* The directory of layouts 2 and 3, of entries of eight bytes, of that of layout 4, where the homes of files follow each other. */
+/* The directory of layout 2, of entries of eight bytes, of that of layout 4, where the homes of files follow each other. */
 static inline void put_older_directory(int from, int to, off_t at, const char *path) {
   static unsigned char entries[64][256], older[512];
   unsigned home = 0;
@@ -62,18 +60,17 @@ static inline void put_older_directory(int from, int to, off_t at, const char *p
   must_move(pwrite(to, older, sizeof older, at), sizeof older, path);
 }
 
-static inline void put_stamp(int to, off_t sector, int layout, const char *path) {
-  char mark[512], eight[] = "FAMSYNC0";
-  eight[7] = (char)(eight[7] + layout);
+static inline void put_mark(int to, const char *eight, const char *path) {
+  char mark[512];
   for (size_t i = 0; i < sizeof mark; i += 8) memcpy(mark + i, eight, 8);
-  must_move(pwrite(to, mark, sizeof mark, 512 * sector), sizeof mark, path);
+  must_move(pwrite(to, mark, sizeof mark, 0), sizeof mark, path);
 }
 
-/* Puts an image of layout 2 or 3 in the place of a new one of layout 4: as sparse as that, or with room for all. */
-static inline void make_older(const char *path, int layout) {
+/* Puts an image of layout 2 in the place of a new one of layout 4: as sparse as that, or with room for all. */
+static inline void make_older(const char *path) {
   char older[256];
   struct stat there;
-  const struct sectors *sectors = sectors_of(layout);
+  const struct sectors *sectors = &SECTORS_2;
   snprintf(older, sizeof older, "%s.older", path);
   int from = open(path, O_RDONLY | O_CLOEXEC), to = open(older, O_RDWR | O_CREAT | O_TRUNC | O_CLOEXEC, 0600);
   if (from < 0 || to < 0 || fstat(from, &there) != 0) perror(path), exit(1);
@@ -82,15 +79,14 @@ static inline void make_older(const char *path, int layout) {
   if (there.st_blocks * 512 >= there.st_size) (void)!fallocate(to, 0, 0, 512 * sectors->homes + homes);
   put_older_directory(from, to, 512 * sectors->directory, older);
   copy_bytes(from, 512 * SECTORS_4.homes, to, 512 * sectors->homes, homes, path);
-  if (layout == 3) put_stamp(to, 1, 3, older);
-  put_stamp(to, 0, layout, older);
+  put_mark(to, "FAMSYNC2", older);
   if (close(from) != 0 || close(to) != 0 || rename(older, path) != 0) perror(older), exit(1);
 }
 
 /* kefs_format, of that layout. */
 static inline int format_image(const char *path, unsigned permissions, const struct kefs_file *files, size_t count) {
   int result = kefs_format(path, permissions, files, count);
-  if (result == KEFS_OK && image_layout() != 4) make_older(path, image_layout());
+  if (result == KEFS_OK && image_layout() != 4) make_older(path);
   return result;
 }
 #endif

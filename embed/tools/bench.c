@@ -16,10 +16,15 @@
    bench open FOLDER MIB: times of kefs_open and kefs_map of one file of so many MiB, read whole and KEFS_LAZY; then the median time of
    a commit of one page, fresh and after a store to each 2 MiB, and how much memory of the process all that takes.
 
+   bench threads FOLDER THREADS COMMITS [SYNC]: so many threads make as many commits each, of a page of its own: by kefs_commit_start and kefs_commit_wait (started),
+   by kefs_commit of that page (kefs), and in SQLite with WAL and synchronous=FULL, by a connection each, whose BEGIN IMMEDIATE tries again after 50 us where another
+   one writes (wal, where its library is there). It prints a line for each way: its name, how many commits they made a second, and how many syncs one took.
+
    bench sync FOLDER: the quartiles of the time of a write of a page and its fdatasync. */
 #define _GNU_SOURCE
 #include "tests.h"
 #include <dlfcn.h>
+#include <pthread.h>
 #include <sys/mman.h>
 #include <sys/syscall.h>
 #include <sys/uio.h>
@@ -57,7 +62,7 @@ static void keep(off_t at, size_t bytes) {
 
 static int end_sync(double start, long result) {
   double left = start + sync_time - now();
-  syncs++;
+  __atomic_fetch_add(&syncs, 1, __ATOMIC_RELAXED);
   if (sync_time > 0 && left > 0) nanosleep(&(struct timespec){(time_t)(left / 1e6), (long)(left * 1e3) % 1000000000}, NULL);
   return (int)result;
 }
@@ -178,7 +183,8 @@ static void *called(void *library, const char *name) {
 
 static int (*open_base)(const char *, void **), (*execute)(void *, const char *, void *, void *, void *);
 static int (*prepare)(void *, const char *, int, void **, void *), (*bind_blob)(void *, int, const void *, int, void *);
-static int (*bind_int)(void *, int, int), (*step)(void *), (*reset)(void *);
+static int (*bind_int)(void *, int, int), (*step)(void *), (*reset)(void *), (*finalize)(void *), (*close_base)(void *);
+static int (*on_busy)(void *, int (*)(void *, int), void *);
 static struct base { void *base, *update, *begin, *end; } bases[MODES];
 
 static int load_sqlite(void) {
@@ -187,7 +193,8 @@ static int load_sqlite(void) {
   *(void **)&open_base = called(library, "sqlite3_open"), *(void **)&execute = called(library, "sqlite3_exec");
   *(void **)&prepare = called(library, "sqlite3_prepare_v2"), *(void **)&bind_blob = called(library, "sqlite3_bind_blob");
   *(void **)&bind_int = called(library, "sqlite3_bind_int"), *(void **)&step = called(library, "sqlite3_step");
-  *(void **)&reset = called(library, "sqlite3_reset");
+  *(void **)&reset = called(library, "sqlite3_reset"), *(void **)&on_busy = called(library, "sqlite3_busy_handler");
+  *(void **)&finalize = called(library, "sqlite3_finalize"), *(void **)&close_base = called(library, "sqlite3_close");
   return 1;
 }
 
@@ -391,6 +398,85 @@ static int time_worn(size_t mib, int commits) {
   return 0;
 }
 
+/* Threads */
+
+enum { MOST_THREADS = 64 };
+enum way { BY_START, BY_COMMIT, BY_ROW, WAYS };
+static const char *const WAYS_NAMES[WAYS] = {"started", "kefs", "wal"};
+static int commits_each;
+struct worker { pthread_t thread; enum way way; int number; };
+
+static int try_again(void *of, int times) {
+  (void)of, (void)times;
+  nanosleep(&(struct timespec){0, 50000}, NULL);
+  return 1;
+}
+
+static void commit_page(const struct worker *it, int i) {
+  struct kefs_range page = {mapped[KEFS] + (size_t)it->number * PAGE, PAGE};
+  uint64_t ticket;
+  memset((void *)(uintptr_t)page.at, i, PAGE);
+  if (it->way == BY_COMMIT) return must(kefs_commit(images[KEFS], &page, 1, NULL), "kefs_commit");
+  must(kefs_commit_start(images[KEFS], &page, 1, NULL, &ticket), "kefs_commit_start");
+  must(kefs_commit_wait(images[KEFS], ticket), "kefs_commit_wait");
+}
+
+static void open_connection(struct base *it) {
+  if (open_base("bench.wal", &it->base) != 0) die("bench.wal");
+  on_busy(it->base, try_again, NULL);
+  execute(it->base, "pragma synchronous=FULL", 0, 0, 0);
+  prepare(it->base, "update t set b=? where id=?", -1, &it->update, 0);
+  prepare(it->base, "begin immediate", -1, &it->begin, 0), prepare(it->base, "commit", -1, &it->end, 0);
+}
+
+static void update_row(const struct base *it, int number, int i) {
+  unsigned char row[VALUE];
+  memset(row, i, VALUE);
+  run_statement(it->begin);
+  bind_blob(it->update, 1, row, VALUE, 0), bind_int(it->update, 2, number), run_statement(it->update);
+  run_statement(it->end);
+}
+
+static void *work(void *of) {
+  const struct worker *it = of;
+  struct base connection = {0};
+  if (it->way == BY_ROW) open_connection(&connection);
+  for (int i = 0; i < commits_each; i++)
+    if (it->way == BY_ROW) update_row(&connection, it->number, i);
+    else commit_page(it, i);
+  if (it->way != BY_ROW) return NULL;
+  finalize(connection.update), finalize(connection.begin), finalize(connection.end);
+  close_base(connection.base);
+  return NULL;
+}
+
+static void time_way(enum way way, int threads) {
+  struct worker workers[MOST_THREADS];
+  size_t before = syncs;
+  double start = now();
+  for (int t = 0; t < threads; t++) {
+    workers[t] = (struct worker){.way = way, .number = t};
+    if (pthread_create(&workers[t].thread, NULL, work, &workers[t]) != 0) die("a thread");
+  }
+  for (int t = 0; t < threads; t++) pthread_join(workers[t].thread, NULL);
+  double seconds = (now() - start) * 1e-6, commits = (double)threads * commits_each;
+  printf("%s %.0f %.2f\n", WAYS_NAMES[way], commits / seconds, (double)(syncs - before) / commits);
+}
+
+/* All are opened before syncs take as long as they are told to. */
+static int time_threads(int threads, double slow) {
+  if (threads > MOST_THREADS) return 2;
+  memset(ready, 1, sizeof ready);
+  sync_time = 0;
+  open_kefs(KEFS, "bench.img", PAGES, 0), settle_kefs(KEFS);
+  int has_sqlite = load_sqlite();
+  if (has_sqlite) open_sqlite(WAL, "bench.wal", "WAL");
+  sync_time = slow;
+  time_way(BY_START, threads), time_way(BY_COMMIT, threads);
+  if (has_sqlite) time_way(BY_ROW, threads);
+  return 0;
+}
+
 static int time_syncs(void) {
   enum { SYNCS = 300 };
   double taken[SYNCS];
@@ -455,10 +541,12 @@ int main(int argc, char **argv) {
   count = number_of(argc, argv, 3);
   if (strcmp(argv[1], "sync") == 0) return time_syncs();
   if (strcmp(argv[1], "open") == 0 && count > 0) return time_openings((uint32_t)count);
-  int commits = number_of(argc, argv, 4), is_worn = strcmp(argv[1], "worn") == 0;
+  int commits = number_of(argc, argv, 4), is_worn = strcmp(argv[1], "worn") == 0, is_threads = strcmp(argv[1], "threads") == 0;
   is_hot = argc > 5 && strcmp(argv[5], "hot") == 0;
-  sync_time = number_of(argc, argv, is_worn ? 5 : 6);
+  sync_time = number_of(argc, argv, is_worn || is_threads ? 5 : 6);
   if (commits < 1 || count < 1) return 2;
+  commits_each = commits;
+  if (is_threads) return time_threads(count, sync_time);
   if (is_worn) return time_worn((size_t)count, commits);
   return (unsigned long)count > image_sectors()->most ? 2 : time_commits(commits);
 }

@@ -1,5 +1,6 @@
 """compare.py BENCH FOLDER COMMITS [SYNC]: times of commits of 1, 10, 100 and 1,000 pages, spread over a file of 1,024 and the same ones each time (hot), as
-multiples within one run (bench.c says of what), each of medians; then of one page of a worn file of 1 GiB over one of 4 MiB. SYNC is how many microseconds each
+multiples within one run (bench.c says of what), each of medians; then of one page of a worn file of 1 GiB over one of 4 MiB; and commits a second of threads, with
+syncs of 4 ms. SYNC is how many microseconds each
 sync takes at least, for all alike.
 
 compare.py figures BENCH FOLDER MEMORY: the text of docs/pictures/commits.txt, of FOLDER on a disk, the same with syncs of 4 ms, and MEMORY on tmpfs. It is
@@ -9,6 +10,7 @@ import subprocess
 import sys
 
 OTHERS = ("msync", "wal", "delete", "lmdb")
+THREADS, THREAD_COMMITS = 16, 60
 TRACKERS = {"scan": "scan", "ranges": "scan, of a range", "signal": "signal", "caller": "caller"}
 QUIET, SLOW = 1.5, 4000  # the most other work, by the system's load, and microseconds of a slow sync
 HEAD = """\
@@ -48,6 +50,14 @@ def worn_of(bench, folder, commits, sync):
     return {it: (times[f"{it}-1024"][1], times[f"{it}-4"][1]) for it in TRACKERS}
 
 
+def threads_of(bench, folder, sync):
+    """How many commits threads make a second, a page each, and how many syncs one takes: started and waited for, by kefs_commit, and in SQLite."""
+    times = timed(bench, "threads", folder, str(THREADS), str(THREAD_COMMITS), str(sync))
+    words = [f"{name} {rate:,.0f} ({syncs:.2f} syncs each)" for name, (rate, syncs) in times.items()]
+    more = f": {times['started'][0] / times['wal'][0]:.1f} times as many as wal" if "wal" in times else ""
+    return f"{THREADS} threads of one page each, each sync at least {sync} us, commits a second: {', '.join(words)}{more}"
+
+
 def compare(bench, folder, commits, sync="0"):
     print(f"{folder}, {commits} commits, a write and its sync take {timed(bench, 'sync', folder)['sync'][1]:.1f} us, each sync at least {sync}: times as multiples")
     print("pages        kefs_commit in us  syncs  over its device calls  with its stores over " + "  ".join(OTHERS))
@@ -56,6 +66,7 @@ def compare(bench, folder, commits, sync="0"):
         print(f"{pages:5} {way:6} {times['kefs'][1]:17.1f} {times['kefs'][4]:6.1f}  {over(times, 'kefs', 'calls'):>21} {' ' * 21}{others}")
     for tracker, (large, small) in worn_of(bench, folder, commits, sync).items():
         print(f"a page of a worn GiB, {tracker}: {large:.1f} us, over one of 4 MiB ({small:.1f} us): {large / small:.2f}")
+    print(threads_of(bench, folder, SLOW))
 
 
 def goes_first():
@@ -91,6 +102,7 @@ def figures(bench, folder, memory):
         cells = [f"{large:{width},.0f}{large / small:7.2f}" for (large, small), width in zip((it[tracker] for it in worn), (11, 13, 14))]
         print(f"{name:17}{''.join(cells)}")
     calls, all_of_it = (one_page["tmpfs"][it][1] for it in ("calls", "kefs"))
+    print(f"\n{threads_of(bench, folder, SLOW)}.")
     print(f"\nOn tmpfs the calls of a commit of one page take {calls:.0f} of its {all_of_it:.0f} us.")
 
 

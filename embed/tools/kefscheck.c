@@ -18,6 +18,7 @@ static const char USAGE[] =
   "The first form tells of an image its layout, its files, what its journal or pool holds, who has it open, and whether it would open, and if\n"
   "not, why. The second one writes file number FILE, 0 to 63, to standard output, as the last commit left it. The third one makes NEW, where\n"
   "nothing may be, an image of layout 4 with the files of OLD, an image of layout 2 or 3, as its last commit left them: whole, or not at all.\n"
+  "Images of layout 3 have no other use: nothing else opens them.\n"
   "An image that is there is only read; while a program has it open to write, the first form may see a commit half made, and the others are\n"
   "refused.\n"
   "\n"
@@ -119,7 +120,7 @@ static int dump(const char *path, const char *word) {
 static int upgrade(const char *old, const char *new) {
   kefs_image *image;
   struct stat there;
-  int result = kefs_open(&image, old, KEFS_RDONLY | KEFS_NOWAIT);
+  int result = open_older(&image, old);
   if (result != KEFS_OK) return failed(old, kefs_errmsg(NULL));
   int status = 0;
   if (image->layout.number == 4) status = failed(old, "it has layout 4 already");

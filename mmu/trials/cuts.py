@@ -17,7 +17,7 @@ from traces import loaded
 SECTOR, PAGE, SECONDS = 512, 4096, 300
 ACCOUNTS, MOST_TRANSFERS, EACH, FIRST_SUM, FILE_BYTES = 1000, 500, 10, 1000000, 65536  # of user/bank.c
 FILLINGS = 5  # at least
-LAYOUTS = {"new": 2, "new3": 3}
+LAYOUTS = {"new": 2, "new4": 4}
 CONTROLS = 250  # images
 CHECKED = 500  # of so many images one is read by pagecat too
 

@@ -18,7 +18,7 @@ REFUSALS = {
     "a disk without flush": (CPU, ",config-wce=off,write-cache=off", "kernel: this disk offers no flush"),
 }
 SLOT = 5  # QEMU itself reads the first sector of a disk
-GATES = {"new": 2, "new3": 16}  # sectors
+GATES = {"new": 2, "new4": 8}  # sectors
 FOUND = re.compile(r"^found transfers (\d+), sum (\d+)$", re.M)
 
 

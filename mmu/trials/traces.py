@@ -116,7 +116,7 @@ def random_case(seed, length):
     rng = random.Random(seed)
     with tempfile.TemporaryDirectory() as room:
         specs, files = random_files(rng, room)
-        pagefmt(rng.choice(("new", "new3")), f"{room}/image", specs)
+        pagefmt(rng.choice(("new", "new4")), f"{room}/image", specs)
         lines = random_lines_of(rng, length, len(files))
         setting = Setting(rng.choice((8, 10, 12, 16, 64, 1024)), rng.choice((0, 2, 16, 64)), False, False)
         make_swap(f"{room}/swap", setting.slots)

@@ -23,6 +23,7 @@ module _ {D : Type 0} (g : Ghosts D) where
     pub ready : OnOk result (IsReadyStore g new)
     -- and to as many pages as every commit, where this one brought no more;
     pub room : OnOk result (length list ≤ always_free_in (kept_of old) → always_free_in (kept_of old) ≤ free_of new)
+    pub always : always_free_in (kept_of new) ≡ always_free_in (kept_of old)
     pub calm : OnOk result (g.failures (disk_of new) ≡ g.failures (disk_of old))
     -- and whatever comes of it, at every moment of the call it stands for the files before or after,
     pub any_moment : g.keeps_model (disk_of new) → (files : ℕ → Option FileInfo) (before after : ℕ → ℕ → List ℕ) → LeavesNow g (disk_of old) (StandsFor (g.sector_count (disk_of old)) files before)
@@ -35,8 +36,8 @@ module _ {D : Type 0} (g : Ghosts D) where
   -- A batch is refused:
   pub record RefusesBatch (old new : Store D) (list : List FilePage) (fault : BatchFault) : Type 0 where
     -- with `BadPages` and `ReadOnly` only where its pages are so, and then nothing is changed,
-    pub bad_pages : fault ≡ BadPages → ArePages (files_of old) 1 (free_of old) list → ⊥
-    pub read_only : fault ≡ ReadOnly → ArePages (files_of old) 1 (free_of old) list × HasReadOnly (files_of old) list
+    pub bad_pages : fault ≡ BadPages → ArePages (files_of old) (free_of old) list → ⊥
+    pub read_only : fault ≡ ReadOnly → ArePages (files_of old) (free_of old) list × HasReadOnly (files_of old) list
     pub unchanged : (fault ≡ Device → ⊥) → new ≡ old
     -- and with `Device` only where the device failed.
     pub cause : fault ≡ Device → g.failures (disk_of old) < g.failures (disk_of new)

@@ -1,5 +1,5 @@
 //! A batch that is brought a page at a time.
-ghost use Rattle.std.specs.Prelude.{◌≡◌, ◌≤◌, length, vec_capacity};
+ghost use Rattle.std.specs.Prelude.{◌≡◌, ◌≤◌, ◌<◌, ◌↔◌, true, IfOk, IsTrue, length, vec_capacity};
 
 use std::alloc::{AllocError, Global};
 use vm_types::FilePage;
@@ -16,11 +16,16 @@ pub(crate) struct Batch {
     ghost long: { length bytes.items ≡ length pages.items },
     ghost room: { most ≤ vec_capacity pages },
     ghost bytes_room: { most ≤ vec_capacity bytes },
+    ghost filled: { over ≡ true → most ≤ length pages.items },
 }
 
 impl Batch {
+    ghost use Rattle.batches.specs.Brought.{pages_in, bytes_in, IsBegunAnew, BringsPage};
+
     /// Room for so many pages. It is reserved and not touched: the host gives memory for what a batch brings, a page at a time.
-    pub(crate) fn new(alloc: Global, most: usize) -> Result<Batch, AllocError> {
+    pub(crate) fn new(alloc: Global, most: usize) -> Result<Batch, AllocError>
+        ensures { IfOk result (λ batch. IsBegunAnew most batch) }
+    {
         Ok(Batch {
             pages: Vec::with_capacity(alloc, most)?,
             bytes: Vec::with_capacity(alloc, most)?,
@@ -30,7 +35,9 @@ impl Batch {
     }
 
     /// Adds a page. Past the most pages it is only noted that there are too many.
-    pub(crate) fn add(&mut self, page: FilePage, bytes: &[u8; 4096]) {
+    pub(crate) fn add(&mut self, page: FilePage, bytes: &[u8; 4096])
+        ensures { BringsPage self.old self.new page bytes.now }
+    {
         if self.pages.len() >= self.most {
             self.over = true;
             return;
@@ -40,7 +47,9 @@ impl Batch {
     }
 
     /// Lets go of all pages.
-    pub(crate) fn clear(&mut self) {
+    pub(crate) fn clear(&mut self)
+        ensures { IsBegunAnew self.old.most self.new }
+    {
         self.pages.clear();
         self.bytes.clear();
         self.over = false;
@@ -48,14 +57,18 @@ impl Batch {
 
     /// The pages and their bytes; no pages at all where there were too many.
     pub(crate) fn brought(&self) -> (&[FilePage], &[[u8; 4096]])
-        ensures { length result.1.now ≡ length result.0.now }
+        ensures pages { result.0.now ≡ pages_in self.now }
+        ensures bytes { result.1.now ≡ bytes_in self.now }
+        ensures long { length result.1.now ≡ length result.0.now }
     {
         let count = if self.over { 0 } else { self.pages.len() };
         (&self.pages[..count], &self.bytes[..count])
     }
 
     /// Whether a page was brought.
-    pub(crate) fn is_begun(&self) -> bool {
+    pub(crate) fn is_begun(&self) -> bool
+        ensures { IsTrue result ↔ 0 < length self.now.pages.items }
+    {
         !self.pages.is_empty()
     }
 }

@@ -73,7 +73,7 @@ fn commit_good<D: SectorDisk>(
     bytes: &[[u8; 4096]],
 ) -> Result<(), BatchFault>
     requires ready { IsReadyStore D.SectorDisk store.old }
-    requires pages { ArePages (files_of store.old) 1 (free_of store.old) pages.now }
+    requires pages { ArePages (files_of store.old) (free_of store.old) pages.now }
     requires bytes { length bytes.now ≡ length pages.now }
     ensures commits { CommitsBatch D.SectorDisk store.old store.new pages.now (given_page bytes.now) result }
     ensures asks { AsksOnly D.SectorDisk (IsUsedIn (kept_of store.old)) (disk_of store.old) (disk_of store.new) }
@@ -87,7 +87,7 @@ fn commit_good<D: SectorDisk>(
 }
 
 /// Makes pages durable all at once: page `pages[i]` becomes `bytes[i]`, with zeros past its file's end. A store takes as many as
-/// `free_pages` says: 1,023 of layouts 2 and 3, of layout 4 as many as are free.
+/// `free_pages` says: 1,023 of layout 2, of layout 4 as many as are free.
 ///
 /// # Errors
 ///
@@ -105,11 +105,11 @@ pub fn commit_pages<D: SectorDisk>(
     // Of the device no sector was asked for but those that a commit uses.
     ensures asks { AsksOnly D.SectorDisk (IsUsedIn (kept_of store.old)) (disk_of store.old) (disk_of store.new) }
     // A batch is refused exactly where it is bad.
-    ensures taken { OnOk result (ArePages (files_of store.old) 1 (free_of store.old) pages.now) }
+    ensures taken { OnOk result (ArePages (files_of store.old) (free_of store.old) pages.now) }
     ensures written { OnOk result (HasReadOnly (files_of store.old) pages.now → ⊥) }
     ensures refused { IfErr result (RefusesBatch D.SectorDisk store.old store.new pages.now) }
 {
-    match check_pages(store, pages) {
+    match check_pages(store, store.free_pages(), pages) {
         Ok(()) => commit_good(store, pages, bytes),
         Err(fault) => Err(fault_of(fault)),
     }

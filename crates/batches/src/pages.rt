@@ -3,7 +3,7 @@ ghost use Rattle.std.specs.Prelude.{◌≡◌, ◌↔◌, ◌≤◌, ℕ, OnOk, 
 ghost use Rattle.batches.specs.Pages.{AreDistinct, AreRising, HasReadOnly, IsReadOnly, place_of};
 ghost use Rattle.file_store.specs.Standing.{IsPageOf};
 ghost use Rattle.stores.specs.Commit.{ArePages};
-ghost use Rattle.stores.specs.Store.{files_of, free_of, IsReadyStore};
+ghost use Rattle.stores.specs.Store.{files_of};
 
 use disk_model::SectorDisk;
 use stores::Store;
@@ -31,21 +31,23 @@ pub fn check_page<D: SectorDisk>(store: &Store<D>, page: FilePage) -> bool
     }
 }
 
-/// Whether a batch may bring these pages: at least one, and at most as many as the next commit takes, 1,023 of layouts 2 and 3, of
-/// layout 4 as many as are free. Pages in rising order, by file and then by page, are looked at once each; of others each one is looked for among
+/// Whether a batch may bring these pages: at least one, and at most `most`. Pages in rising order, by file and then by page, are looked at once each; of others each one is looked for among
 /// those before it.
 ///
 /// # Errors
 ///
 /// `BadPages` and `ReadOnly` come exactly where they say, `BadPages` before `ReadOnly`.
-pub fn check_pages<D: SectorDisk>(store: &Store<D>, pages: &[FilePage]) -> Result<(), BadBatch>
-    requires { IsReadyStore D.SectorDisk store.now }
-    ensures good { OnOk result (ArePages (files_of store.now) 1 (free_of store.now) pages.now) }
+pub fn check_pages<D: SectorDisk>(
+    store: &Store<D>,
+    most: usize,
+    pages: &[FilePage],
+) -> Result<(), BadBatch>
+    ensures good { OnOk result (ArePages (files_of store.now) most pages.now) }
     ensures written { OnOk result (HasReadOnly (files_of store.now) pages.now → ⊥) }
-    ensures bad_pages { IfErr result (λ fault. fault ≡ BadBatch.BadPages → ArePages (files_of store.now) 1 (free_of store.now) pages.now → ⊥) }
-    ensures read_only { IfErr result (λ fault. fault ≡ BadBatch.ReadOnly → ArePages (files_of store.now) 1 (free_of store.now) pages.now × HasReadOnly (files_of store.now) pages.now) }
+    ensures bad_pages { IfErr result (λ fault. fault ≡ BadBatch.BadPages → ArePages (files_of store.now) most pages.now → ⊥) }
+    ensures read_only { IfErr result (λ fault. fault ≡ BadBatch.ReadOnly → ArePages (files_of store.now) most pages.now × HasReadOnly (files_of store.now) pages.now) }
 {
-    if !are_pages(store, pages) {
+    if !are_pages(store, most, pages) {
         return Err(BadBatch::BadPages);
     }
     if has_read_only(store, pages) {
@@ -54,13 +56,12 @@ pub fn check_pages<D: SectorDisk>(store: &Store<D>, pages: &[FilePage]) -> Resul
     Ok(())
 }
 
-/// Whether the pages are at least one and no more than the next commit takes, and begin inside their files, none twice.
-fn are_pages<D: SectorDisk>(store: &Store<D>, pages: &[FilePage]) -> bool
-    requires { IsReadyStore D.SectorDisk store.now }
-    ensures good { IsTrue result → ArePages (files_of store.now) 1 (free_of store.now) pages.now }
-    ensures bad { IsFalse result → ArePages (files_of store.now) 1 (free_of store.now) pages.now → ⊥ }
+/// Whether the pages are at least one and no more than `most`, and begin inside their files, none twice.
+fn are_pages<D: SectorDisk>(store: &Store<D>, most: usize, pages: &[FilePage]) -> bool
+    ensures good { IsTrue result → ArePages (files_of store.now) most pages.now }
+    ensures bad { IsFalse result → ArePages (files_of store.now) most pages.now → ⊥ }
 {
-    if pages.is_empty() || pages.len() > store.free_pages() {
+    if pages.is_empty() || pages.len() > most {
         return false;
     }
     are_inside(store, pages) && are_distinct(pages)

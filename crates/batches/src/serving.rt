@@ -1,6 +1,12 @@
 //! Requests carried out one after the other.
-ghost use Rattle.std.specs.Prelude.{◌≢◌, OnOk};
-ghost use Rattle.stores.specs.Store.{IsReadyStore};
+ghost use Rattle.std.specs.Io.KnownBytes.{Consumes};
+ghost use Rattle.std.specs.Prelude.{◌≡◌, ◌≢◌, ℕ, List, Result, OnOk, OnErr};
+ghost use Rattle.batches.specs.Bringing.{CommitsBatch};
+ghost use Rattle.batches.specs.Brought.{pages_in, bytes_in, IsBegunAnew, BringsPage};
+ghost use Rattle.batches.specs.Pages.{given_page};
+ghost use Rattle.batches.specs.declared.commits.BatchFault.{BatchFault as AFault};
+ghost use Rattle.disk_model.specs.Moments.{Nothing, Touches};
+ghost use Rattle.stores.specs.Store.{disk_of, kept_of, IsReadyStore};
 
 use crate::batch::Batch;
 use crate::commits::{BatchFault, commit_pages};
@@ -49,7 +55,7 @@ pub fn serve<D: SectorDisk, I: Read, O: Write>(
     requires { IsReadyStore D.SectorDisk store.old }
 {
     let mut batch = Batch::new(alloc, store.always_free_pages())?;
-    if store.make_room().is_err() {
+    if store.make_room_for(store.always_free_pages()).is_err() {
         return Ok(ServeEnd::Device);
     }
     for _ in 0..u64::MAX {
@@ -106,7 +112,10 @@ fn refuse<O: Write>(output: &mut O, fault: BatchFault) -> Result<(), ServeEnd>
 }
 
 /// Takes the bytes of a page of the batch.
-fn take_page<I: Read>(batch: &mut Batch, page: FilePage, input: &mut I) -> Result<(), ServeEnd> {
+fn take_page<I: Read>(batch: &mut Batch, page: FilePage, input: &mut I) -> Result<(), ServeEnd>
+    ensures brings { OnOk result ((bytes : List ℕ) × Consumes (I.remaining input.old) (I.remaining input.new) bytes × BringsPage batch.old batch.new page bytes) }
+    ensures cut { OnErr result (batch.new ≡ batch.old) }
+{
     let mut bytes = [0; 4096];
     if input.read_exact(&mut bytes).is_err() {
         return Err(ServeEnd::Cut);
@@ -122,7 +131,9 @@ fn commit_batch<D: SectorDisk, O: Write>(
     output: &mut O,
 ) -> Result<(), ServeEnd>
     requires { IsReadyStore D.SectorDisk store.old }
-    ensures { OnOk result (IsReadyStore D.SectorDisk store.new) }
+    ensures ready { OnOk result (IsReadyStore D.SectorDisk store.new) }
+    ensures commits { (outcome : Result (Unit {0}) AFault) × CommitsBatch D.SectorDisk store.old store.new (pages_in batch.old) (given_page (bytes_in batch.old)) outcome }
+    ensures begins { IsBegunAnew batch.old.most batch.new }
 {
     let (pages, bytes) = batch.brought();
     let outcome = commit_pages(store, pages, bytes);
@@ -140,7 +151,9 @@ fn show_page<D: SectorDisk, O: Write>(
     output: &mut O,
 ) -> Result<(), ServeEnd>
     requires { IsReadyStore D.SectorDisk store.old }
-    ensures { OnOk result (IsReadyStore D.SectorDisk store.new) }
+    ensures ready { OnOk result (IsReadyStore D.SectorDisk store.new) }
+    ensures same { kept_of store.new ≡ kept_of store.old }
+    ensures unwritten { D.keeps_model (disk_of store.new) → Touches D.SectorDisk Nothing (disk_of store.old) (disk_of store.new) }
 {
     if !check_page(store, page) {
         return refuse(output, BatchFault::BadPages);

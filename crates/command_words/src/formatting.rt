@@ -9,19 +9,18 @@ use crate::pools::blocks_of;
 use clap::{ArgMatches, Command};
 use std::alloc::{AllocError, Global};
 use stores::NewStore;
-use sync_journal::Journals;
 
 /// The words of `pagefmt`.
 #[derive(Drop)]
 pub enum FormatWords<'a> {
-    /// `new IMAGE SPEC...`, `new3 IMAGE SPEC...` or `new4 [--pool PAGES] IMAGE SPEC...`
+    /// `new IMAGE SPEC...` or `new4 [--pool PAGES] IMAGE SPEC...`
     New(NewWords<'a>),
-    /// `upgrade OLD NEW`, `upgrade3 OLD NEW` or `upgrade4 [--pool PAGES] OLD NEW`
+    /// `upgrade OLD NEW` or `upgrade4 [--pool PAGES] OLD NEW`
     Upgrade(UpgradeWords<'a>),
 }
 
-/// The words of `pagefmt new IMAGE SPEC...`, whose store has one journal, of `pagefmt new3 IMAGE SPEC...`, whose store has two in turn, or of
-/// `pagefmt new4 [--pool PAGES] IMAGE SPEC...`, whose store has a pool of so many pages at least.
+/// The words of `pagefmt new IMAGE SPEC...`, whose store has a journal, or of `pagefmt new4 [--pool PAGES] IMAGE SPEC...`, whose store has a pool of so
+/// many pages at least.
 #[derive(Drop)]
 pub struct NewWords<'a> {
     /// The store.
@@ -32,8 +31,8 @@ pub struct NewWords<'a> {
     pub specs: Vec<&'a str>,
 }
 
-/// The words of `pagefmt upgrade OLD NEW`, which makes a store of one journal, of `pagefmt upgrade3 OLD NEW`, which makes one of two in turn, or of
-/// `pagefmt upgrade4 [--pool PAGES] OLD NEW`, which makes one with a pool of so many pages at least.
+/// The words of `pagefmt upgrade OLD NEW`, which makes a store with a journal, or of `pagefmt upgrade4 [--pool PAGES] OLD NEW`, which makes one with a pool
+/// of so many pages at least.
 #[derive(Clone, Copy)]
 pub struct UpgradeWords<'a> {
     /// The new store, which says which layout OLD has to have.
@@ -47,7 +46,7 @@ pub struct UpgradeWords<'a> {
 /// What keeps the pages of a store that is to be made. How large a pool is, other words say.
 #[derive(Clone, Copy)]
 enum Keeping {
-    Journals(Journals),
+    Journal,
     Pool,
 }
 
@@ -61,15 +60,11 @@ enum Making {
 /// What `pagefmt` is to make after that word, if it is one that it takes.
 fn making_of(word: &str) -> Option<Making> {
     if word == "new" {
-        Some(Making::New(Keeping::Journals(Journals::Single)))
-    } else if word == "new3" {
-        Some(Making::New(Keeping::Journals(Journals::Paired)))
+        Some(Making::New(Keeping::Journal))
     } else if word == "new4" {
         Some(Making::New(Keeping::Pool))
     } else if word == "upgrade" {
-        Some(Making::Upgrade(Keeping::Journals(Journals::Single)))
-    } else if word == "upgrade3" {
-        Some(Making::Upgrade(Keeping::Journals(Journals::Paired)))
+        Some(Making::Upgrade(Keeping::Journal))
     } else if word == "upgrade4" {
         Some(Making::Upgrade(Keeping::Pool))
     } else {
@@ -88,12 +83,10 @@ const UPGRADE_WORDS: [Word; 2] = [("OLD", Taken::Needed), ("NEW", Taken::Needed)
 
 const UPGRADE_POOL_WORDS: [Word; 3] = [POOL, ("OLD", Taken::Needed), ("NEW", Taken::Needed)];
 
-const FORMS: [(&str, &[Word]); 6] = [
+const FORMS: [(&str, &[Word]); 4] = [
     ("new", &NEW_WORDS),
-    ("new3", &NEW_WORDS),
     ("new4", &NEW_POOL_WORDS),
     ("upgrade", &UPGRADE_WORDS),
-    ("upgrade3", &UPGRADE_WORDS),
     ("upgrade4", &UPGRADE_POOL_WORDS),
 ];
 
@@ -130,7 +123,7 @@ fn store_of(keeping: Keeping, matches: &ArgMatches<'_>) -> Result<NewStore, Word
     ensures { IfOk result IsSizedNew }
 {
     match keeping {
-        Keeping::Journals(journals) => Ok(NewStore::Journals(journals)),
+        Keeping::Journal => Ok(NewStore::Journal),
         Keeping::Pool => {
             let blocks = blocks_of(matches.get_str("pool"))?;
             Ok(NewStore::Pool(blocks))

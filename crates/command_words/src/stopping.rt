@@ -9,9 +9,8 @@ use crate::pools::DEFAULT_BLOCKS;
 use crate::running::{DEFAULT_FRAMES, DEFAULT_SLOTS};
 use std::alloc::Global;
 use stores::NewStore;
-use sync_journal::Journals;
 
-/// The words of `pagestops [--every K] [--drop K] [--layout 2|3|4] [--frames N] [--slots N] SPEC...`.
+/// The words of `pagestops [--every K] [--drop K] [--layout 2|4] [--frames N] [--slots N] SPEC...`.
 #[derive(Drop)]
 pub struct StopWords<'a> {
     /// The events to stop in are this one, 1 or more, and its multiples.
@@ -66,12 +65,10 @@ fn store_of(layout: Option<&str>) -> Result<NewStore, WordsFault>
     ensures { IfOk result IsSizedNew }
 {
     let Some(layout) = layout else {
-        return Ok(NewStore::Journals(Journals::Single));
+        return Ok(NewStore::Journal);
     };
     if layout == "2" {
-        Ok(NewStore::Journals(Journals::Single))
-    } else if layout == "3" {
-        Ok(NewStore::Journals(Journals::Paired))
+        Ok(NewStore::Journal)
     } else if layout == "4" {
         Ok(NewStore::Pool(DEFAULT_BLOCKS))
     } else {

@@ -1,5 +1,5 @@
 //! What C programs call. `image` is what the file holds, a sector a row, and is never written here. After the result 0 of
-//! `famsync_open` or `famsync_commit` the first `used` of `calls`, the plan, have to be made of the file, in their order, and
+//! `famsync_open`, `famsync_commit` or `famsync_tidy` the first `used` of `calls`, the plan, have to be made of the file, in their order, and
 //! then `famsync_done` is called, or `famsync_failed` where one of them failed. After any other result there is nothing to
 //! do. `Call` of `sync_plans` says what each call is: some name a page of the commit, which stays as it is until they are
 //! made. `scratch_calls` and `scratch_rows` are room to work in: nothing is said of what they hold. A plan has no more calls than the shortest of
@@ -8,14 +8,15 @@
 //! An image of layout 4 takes memory while it is asked something of: what it says of the slots of its pool, and its directory. The program gives it.
 //!
 //! `StopLeaves` in the `Plans` of `sync_plans` says what a stop leaves of an image. The numbers that are returned stand in `codes`.
-ghost use Rattle.std.specs.Prelude.{◌≡◌, ◌≢◌, ◌≤◌, ◌<◌, ◌↔◌, false, ℕ, List, [], Option, Some, None, length};
+ghost use Rattle.std.specs.Prelude.{◌≡◌, ◌≢◌, ◌≤◌, ◌<◌, ◌↔◌, true, false, not, ℕ, List, [], Option, Some, None, length};
 ghost use Rattle.vm_types.specs.declared.file.FileInfo.{FileInfo};
 ghost use Rattle.disk_model.specs.Stop.{Image};
 ghost use Rattle.file_store.specs.Commit.{Changes};
 ghost use Rattle.file_store.specs.Standing.{IsPageOf};
+ghost use Rattle.pool_journal.specs.Pools.{pool_named};
 ghost use Rattle.pool_store.specs.Resume.{HasPoolHead};
 ghost use Rattle.stores.specs.Commit.{ArePages};
-ghost use Rattle.stores.specs.Images.{is_pool, file_info, free_pages, IsBadLayout, IsClosed, StandsFor, StandsForEither};
+ghost use Rattle.stores.specs.Images.{is_pool, capacity_pages, file_info, IsBadLayout, IsClosed, StandsFor, StandsForEither};
 ghost use Rattle.famsync.specs.Codes.{done, out_of_turn, bad_layout, bad_journal, bad_pages, read_only, no_room, no_memory, closed, ready, pending};
 ghost use Rattle.sync_plans.specs.Pages.{lent_page};
 ghost use Rattle.sync_plans.specs.Plans.{row, room_of, AreCalls, AreSources, image_after, IsLeftUnsynced, StopLeaves};
@@ -25,7 +26,7 @@ use crate::codes::{BAD_PAGES, CLOSED, OK, PENDING, READY, TURN, number};
 use crate::handle::Handle;
 use std::alloc::Global;
 use sync_plans::{
-    Call, PageBytes, PageUpdates, Scratch, file_facts, plan_commit, plan_open, read_page,
+    Call, PageBytes, PageUpdates, Scratch, file_facts, plan_commit, plan_open, plan_tidy, read_page,
 };
 use vm_types::FilePage;
 
@@ -50,6 +51,8 @@ pub extern "C" fn famsync_open(
     ensures any_moment { (files : ℕ → Option FileInfo) (pages : ℕ → ℕ → List ℕ) → StandsFor (length image.now) files pages (row image.now)
         → (left : Image) → StopLeaves calls.new rows.new (lent_page []) (row image.now) used.new left → StandsFor (length image.now) files pages left }
     ensures closed { result ≡ done → is_pool (row image.now) ≡ false → IsClosed (length image.now) (image_after calls.new rows.new (lent_page []) (row image.now) used.new) }
+    ensures anew { result ≡ done → is_pool (row image.now) ≡ true → (IsClosed (length image.now) (row image.now) → ⊥)
+        → pool_named (image_after calls.new rows.new (lent_page []) (row image.now) used.new) ≡ not (pool_named (row image.now)) }
     ensures outside { KeepsOutside (length image.now) (row image.now) (image_after calls.new rows.new (lent_page []) (row image.now) used.new) }
     ensures state { result ≡ done → handle.new.state ≡ pending }
     ensures nothing { result ≢ done → (used.new ≡ 0) × (handle.new.state ≡ closed) }
@@ -83,8 +86,8 @@ pub extern "C" fn famsync_open(
 }
 
 /// Plans that these pages become durable all at once: page `pages[i]` becomes the bytes at `bytes[i]`, with zeros past its
-/// file's end. There is at least one page, and there are no more than the store takes: 1,023 of layouts 2 and 3, of layout 4 as many as it has free slots;
-/// none comes twice, and each begins inside its file. They best come in rising order, by file and then by page: the time that a plan takes then
+/// file's end. There is at least one page, and there are no more than the store takes: 1,023 of layout 2, of layout 4 as many as its pool has slots, where
+/// all pages are brought home first if fewer of them are free; none comes twice, and each begins inside its file. They best come in rising order, by file and then by page: the time that a plan takes then
 /// grows as the plan does. Returns 0, and the handle is pending then; 1 exactly where the handle is not ready; 2 to 7 as in `codes`. After another
 /// result than 0 the plan is empty and the handle as it was.
 #[unsafe(no_mangle)]
@@ -118,7 +121,7 @@ pub extern "C" fn famsync_commit(
     ensures turn { result ≡ out_of_turn ↔ handle.old.state ≢ ready }
     ensures layout { result ≡ bad_layout → IsBadLayout (length image.now) (row image.now) }
     ensures journal { result ≡ bad_journal → HasBadJournal (length image.now) (row image.now) }
-    ensures pages { result ≡ bad_pages → length bytes.now ≡ length pages.now → ArePages (file_info (length image.now) (row image.now)) 1 (free_pages (length image.now) (row image.now)) pages.now → ⊥ }
+    ensures pages { result ≡ bad_pages → length bytes.now ≡ length pages.now → ArePages (file_info (length image.now) (row image.now)) (capacity_pages (length image.now) (row image.now)) pages.now → ⊥ }
     ensures read_only { result ≡ read_only → AreReadOnly (length image.now) (row image.now) pages.now }
     ensures room { result ≡ no_room → AreCalls (length image.now) calls.new (room_of scratch_calls.old scratch_rows.old calls.old rows.old) }
     ensures memory { result ≡ no_memory → HasPoolHead (length image.now) (row image.now) }
@@ -144,6 +147,61 @@ pub extern "C" fn famsync_commit(
         PageUpdates { pages, bytes },
     );
     match planned {
+        Ok(count) => {
+            *used = count;
+            handle.state = PENDING;
+            OK
+        }
+        Err(refusal) => {
+            *used = 0;
+            number(refusal)
+        }
+    }
+}
+
+/// Plans that all pages are brought home that stand in slots of a pool, so that all slots are free, or in an open journal of layout 2: homes at idle.
+/// Returns 0, and the handle is pending then; 1 exactly where the handle is not ready; 2, 3, 6 and 7 as an opening does. After another result than
+/// 0 the plan is empty and the handle as it was.
+#[unsafe(no_mangle)]
+pub extern "C" fn famsync_tidy(
+    handle: &mut Handle,
+    alloc: Global,
+    image: &[[u8; 512]],
+    scratch_calls: &mut [Call],
+    scratch_rows: &mut [[u8; 512]],
+    used: &mut usize,
+    calls: &mut [Call],
+    rows: &mut [[u8; 512]],
+) -> u32
+    ensures few { used.new ≤ room_of scratch_calls.old scratch_rows.old calls.old rows.old }
+    ensures all { AreCalls (length image.now) calls.new used.new }
+    ensures sources { AreSources (lent_page []) calls.new used.new }
+    ensures synced { (n : ℕ) → IsLeftUnsynced calls.new used.new n → ⊥ }
+    ensures any_moment { (files : ℕ → Option FileInfo) (pages : ℕ → ℕ → List ℕ) → StandsFor (length image.now) files pages (row image.now)
+        → (left : Image) → StopLeaves calls.new rows.new (lent_page []) (row image.now) used.new left → StandsFor (length image.now) files pages left }
+    ensures closed { result ≡ done → IsClosed (length image.now) (image_after calls.new rows.new (lent_page []) (row image.now) used.new) }
+    ensures outside { KeepsOutside (length image.now) (row image.now) (image_after calls.new rows.new (lent_page []) (row image.now) used.new) }
+    ensures state { result ≡ done → (handle.old.state ≡ ready) × (handle.new.state ≡ pending) }
+    ensures nothing { result ≢ done → (used.new ≡ 0) × (handle.new ≡ handle.old) }
+    ensures store { result ≡ done → IsStore (length image.now) (row image.now) }
+    ensures turn { result ≡ out_of_turn ↔ handle.old.state ≢ ready }
+    ensures layout { result ≡ bad_layout → IsBadLayout (length image.now) (row image.now) }
+    ensures journal { result ≡ bad_journal → HasBadJournal (length image.now) (row image.now) }
+    ensures room { result ≡ no_room → AreCalls (length image.now) calls.new (room_of scratch_calls.old scratch_rows.old calls.old rows.old) }
+    ensures pages { result ≢ bad_pages }
+    ensures read_only { result ≢ read_only }
+    ensures memory { result ≡ no_memory → HasPoolHead (length image.now) (row image.now) }
+    ensures answers { result ≤ 7 }
+{
+    *used = 0;
+    if handle.state != READY {
+        return TURN;
+    }
+    let scratch = Scratch {
+        calls: scratch_calls,
+        rows: scratch_rows,
+    };
+    match plan_tidy(alloc, image, scratch, calls, rows) {
         Ok(count) => {
             *used = count;
             handle.state = PENDING;

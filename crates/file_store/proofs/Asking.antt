@@ -1,7 +1,7 @@
 -- Which sectors calls ask for.
-use Rattle.file_store.proofs.Names.{◌≡◌, ◌<◌, ℕ, inl, inr, ⊎_elim, refl, sym, arith, subst, FilePage, Image, Names, NamesOnce, once_none, once_named, once_apart, Journals, Single, Paired, sizes_before, IsLookedAtIn, AsksOnly, Ghosts}
-use Rattle.file_store.{proofs.Names.{asks_wider, asks_then, IsPageSector}, specs.{declared.{store.FileStore.{FileStore}, version.Version.{Version, TheVariants.{One, Two, Three}}}, Standing.{IsHeadIn, IsAskedToOpen}, Versions.{version_of}}}
-use Rattle.{file_store.specs.{Versions.{version_before, directory_of}, Store.{home_of, IsSectorOf}, Upgrade.{IsOldHead}}, sync_journal.specs.Kinds.{by_kind}}
+use Rattle.file_store.proofs.Names.{◌≡◌, ◌<◌, ℕ, Bool, true, false, inl, inr, ⊎_elim, refl, sym, arith, subst, FilePage, Image, Names, NamesOnce, once_none, once_named, once_apart, AsksOnly, Ghosts, asks_wider, asks_then}
+use Rattle.file_store.proofs.Names.{one_journal, live_homes, IsPageSector, IsAskedIn, IsLookedAtIn, old_gate, is_old_open, sizes_under, Version, One, Two, Three}
+use Rattle.file_store.specs.{declared.store.FileStore.{FileStore}, Standing.{IsHeadIn, IsAskedToOpen}, Versions.{directory_of}, Store.{home_of, IsSectorOf}, Upgrade.{IsOldHead}}
 
 -- A look at mark and directory of a store of a layout, and at nothing twice: at none,
 pub none_once : (W : ℕ → Type 0) (now : ℕ → ℕ) → NamesOnce W now now
@@ -31,31 +31,44 @@ layout_once version before mid now mark directory = once_apart (λ k. k ≡ 0) (
     (λ k at. inl (omega (arith, at))) (λ k at. inr at) (λ k at behind. let some = directory_behind version in omega (arith, at, behind, some))
     (once_named (λ k. k ≡ 0) (λ k. k ≡ 0) before mid (λ k at. at) mark) directory
 
-old_apart : (kind : Journals) (image : Image) (k : ℕ) → IsHeadIn (version_before kind) k → IsLookedAtIn (sizes_before kind) image k → ⊥
-old_apart Single image k head looked = ⊎_elim (λ low. ⊎_elim (λ gate. omega (arith, low, gate)) (λ map. omega (arith, low, map.1.0)) looked)
-    (λ at. ⊎_elim (λ gate. omega (arith, at, gate)) (λ map. omega (arith, at, map.1.0)) looked) head
-old_apart Paired image k head looked = ⊎_elim (λ low. ⊎_elim (λ gate. omega (arith, low, gate)) (λ map. omega (arith, low, map.1.0)) looked)
-    (λ at. ⊎_elim (λ gate. omega (arith, at, gate)) (λ map. omega (arith, at, map.1.0)) looked) head
+-- mark and directory lie before gate and map
+before_map : (version : Version) (gate : Bool) → directory_of version < (sizes_under version gate).map
+before_map One gate = omega arith
+before_map Two gate = omega arith
+before_map Three false = omega arith
+before_map Three true = omega arith
 
--- and of the store of the layout before then at gate and map
-pub old_head_once : (kind : Journals) (image : Image) (before mid now : ℕ → ℕ) → NamesOnce (IsHeadIn (version_before kind)) before mid → NamesOnce (IsLookedAtIn (sizes_before kind) image) mid now
-    → NamesOnce (IsOldHead kind image) before now
-old_head_once kind image before mid now head looked = once_apart (IsHeadIn (version_before kind)) (IsLookedAtIn (sizes_before kind) image) (IsOldHead kind image) before mid now
-    (λ k at. inl at) (λ k at. inr at) (old_apart kind image) head looked
+before_gate : (version : Version) → directory_of version < old_gate version
+before_gate One = omega arith
+before_gate Two = omega arith
+before_gate Three = omega arith
+
+old_apart : (version : Version) (image : Image) (k : ℕ) → IsHeadIn version k → IsLookedAtIn version image k → ⊥
+old_apart version image k head looked =
+    let map = before_map version (is_old_open version image) in
+    let gate = before_gate version in
+    ⊎_elim
+    (λ low. ⊎_elim (λ at. omega (arith, low, at, gate)) (λ at. omega (arith, low, at.1.0, map)) looked)
+    (λ low. ⊎_elim (λ at. omega (arith, low, at, gate)) (λ at. omega (arith, low, at.1.0, map)) looked) head
+
+-- and of a store that is only read then at gate and map
+pub old_head_once : (version : Version) (image : Image) (before mid now : ℕ → ℕ) → NamesOnce (IsHeadIn version) before mid → NamesOnce (IsLookedAtIn version image) mid now → NamesOnce (IsOldHead version image) before now
+old_head_once version image before mid now head looked = once_apart (IsHeadIn version) (IsLookedAtIn version image) (IsOldHead version image) before mid now
+    (λ k at. inl at) (λ k at. inr at) (old_apart version image) head looked
 
 module _ {D : Type 0} (g : Ghosts D) where
   -- a page by its home
   pub page_once : (store : FileStore D) (p : FilePage) (home : ℕ) (new : D) → home ≡ home_of store.directory p
-      → Names (IsPageSector (by_kind.stands_at store.journal home)) (g.asked store.disk) (g.asked new) → Names (IsSectorOf store p) (g.asked store.disk) (g.asked new)
-  page_once store p home new is names = subst (λ h. Names (IsPageSector (by_kind.stands_at store.journal h)) (g.asked store.disk) (g.asked new)) is names
+      → Names (IsPageSector (one_journal.stands_at (live_homes store.journal) home)) (g.asked store.disk) (g.asked new) → Names (IsSectorOf store p) (g.asked store.disk) (g.asked new)
+  page_once store p home new is names = subst (λ h. Names (IsPageSector (one_journal.stands_at (live_homes store.journal) h)) (g.asked store.disk) (g.asked new)) is names
 
   -- mark and directory alone
-  pub head_asks : (image : Image) (old new : D) → AsksOnly g (IsHeadIn (version_of image)) old new → AsksOnly g (IsAskedToOpen image) old new
-  head_asks image old new asks = asks_wider g (IsHeadIn (version_of image)) (IsAskedToOpen image) old new (λ k head. inl head) asks
+  pub head_asks : (image : Image) (old new : D) → AsksOnly g (IsHeadIn Two) old new → AsksOnly g (IsAskedToOpen image) old new
+  head_asks image old new asks = asks_wider g (IsHeadIn Two) (IsAskedToOpen image) old new (λ k head. inl head) asks
 
   -- and then a recovery
-  pub opening_asks : (image : Image) (old mid new : D) → g.content mid ≡ image → AsksOnly g (IsHeadIn (version_of image)) old mid → AsksOnly g (by_kind.IsAsked (g.content mid)) mid new
+  pub opening_asks : (image : Image) (old mid new : D) → g.content mid ≡ image → AsksOnly g (IsHeadIn Two) old mid → AsksOnly g (IsAskedIn (g.content mid)) mid new
       → AsksOnly g (IsAskedToOpen image) old new
   opening_asks image old mid new same first second = asks_then g (IsAskedToOpen image) old mid new (head_asks image old mid first)
-      (asks_wider g (by_kind.IsAsked image) (IsAskedToOpen image) mid new (λ k asked. inr asked)
-      (subst (λ (held : Image). AsksOnly g (by_kind.IsAsked held) mid new) same second))
+      (asks_wider g (IsAskedIn image) (IsAskedToOpen image) mid new (λ k asked. inr asked)
+      (subst (λ (held : Image). AsksOnly g (IsAskedIn held) mid new) same second))

@@ -1,11 +1,10 @@
 -- What a commit makes of the files.
 use Rattle.file_store.proofs.{Homes.{entry_behind, home_of-entry, is_home, one_file, one_page, home_inside, inside_of-entry}, Images.{SameHead, same_head, entry_same, info_same, bad_layout_moves, stands_kept}, Names.{◌≡◌, ◌≢◌, ℕ, zero}}
 use Rattle.file_store.proofs.Names.{suc, ◌+◌, ◌*◌, ◌<◌, ◌≤◌, ◌⊎◌, ⊎_elim, inl, inr, List, map, length, get_or, take, slice_get, slice_index, Option, Some, None, cond, false, eqb, refl, sym, ap, subst, ◌∙◌, arith, cases_eq, cases_lt, eq-eqb}
-use Rattle.file_store.proofs.Names.{nat_tests, length-take-le, get_or-take, length-map, get_or-map, same_number_lists, same_Some, slice_get-get_or, slice_get_within, Image, part_of, kind_home_count, place_among, AreHomes, changed}
-use Rattle.file_store.{proofs.{Names.{sector_or, Journals, FileInfo, FilePage, joined-same, joined_parts}, Pieces.{trimmed-trimmed, length-trimmed}}, specs.Commit.{cut_page, ArePages, Changes, StandsForEither}}
+use Rattle.file_store.proofs.Names.{nat_tests, length-take-le, get_or-take, length-map, get_or-map, same_number_lists, same_Some, slice_get-get_or, slice_get_within, Image, part_of, home_count, place_among, AreHomes, changed, one_journal, IsKept, StandsForEitherPages, StandsForPages}
+use Rattle.file_store.{proofs.{Names.{sector_or, FileInfo, FilePage, joined-same, joined_parts}, Pieces.{trimmed-trimmed, length-trimmed}}, specs.Commit.{cut_page, ArePages, Changes, StandsForEither}}
 use Rattle.file_store.specs.{Directory.{IsSoundDirectory, IsHomeOf}, Layout.{padded_page, bytes_inside}, Standing.{IsPageOf, StandsFor, standing, directory_entry, page_standing, standing_page}, Store.{entry_of, home_of, homes_of_pages}}
-use Rattle.{file_store.specs.{Store.{inside_named, inside_at, IsEntryPage, PutsHomes, PutsHomesOrNone}, declared.directory.{Directory.{Directory}, Entry.{Entry}}}, sync_journal.specs.Layouts.{IsKept, StandsForEitherPages, StandsForPages}}
-use Rattle.sync_journal.specs.Kinds.{by_kind}
+use Rattle.{file_store.specs.{Store.{inside_named, inside_at, IsEntryPage, PutsHomes, PutsHomesOrNone}, declared.directory.{Directory.{Directory}, Entry.{Entry}}}}
 
 eqb-ne : (m n : ℕ) → m ≢ n → eqb m n ≡ false
 eqb-ne m n other = grind (arith, nat_tests)
@@ -51,15 +50,15 @@ homes_mapped directory list homes of_list = same_number_lists homes (map (home_o
 at_place : (list : List FilePage) (i : ℕ) → i < length list → (p : FilePage) × (slice_get list i ≡ Some p)
 at_place list i lt = (get_or list i no_page, slice_get-get_or list i no_page lt)
 
-pub are_homes : (kind : Journals) (sectors : ℕ) (directory : Directory) (files : ℕ → Option FileInfo) (list : List FilePage) (homes : List ℕ)
-    → IsSoundDirectory (kind_home_count kind sectors) (entry_of directory) → ArePages files list → AreHomesOf directory list homes → AreHomes (kind_home_count kind sectors) homes
-are_homes kind sectors directory files list homes sound pages of_list = record {
+pub are_homes : (sectors : ℕ) (directory : Directory) (files : ℕ → Option FileInfo) (list : List FilePage) (homes : List ℕ)
+    → IsSoundDirectory (home_count sectors) (entry_of directory) → ArePages files list → AreHomesOf directory list homes → AreHomes (home_count sectors) homes
+are_homes sectors directory files list homes sound pages of_list = record {
   few = omega (arith, pages.few, of_list.size);
   inside = λ j lt.
       let at = at_place list j (omega (arith, lt, of_list.size)) in
       let entry = of_list.entries j at.0 at.1 in
-      let below = home_inside kind sectors directory sound at.0 entry in
-      subst (λ h. h < kind_home_count kind sectors) (sym (of_list.each j at.0 at.1 ∙ home_of-entry directory at.0 entry.entry entry.is)) below;
+      let below = home_inside sectors directory sound at.0 entry in
+      subst (λ h. h < home_count sectors) (sym (of_list.each j at.0 at.1 ∙ home_of-entry directory at.0 entry.entry entry.is)) below;
   distinct = λ i j less lt same.
       let at = at_place list i (omega (arith, less, lt, of_list.size)) in
       let at' = at_place list j (omega (arith, lt, of_list.size)) in
@@ -67,15 +66,15 @@ are_homes kind sectors directory files list homes sound pages of_list = record {
       let entry' = of_list.entries j at'.0 at'.1 in
       let home = of_list.each i at.0 at.1 ∙ home_of-entry directory at.0 entry.entry entry.is in
       let home' = of_list.each j at'.0 at'.1 ∙ home_of-entry directory at'.0 entry'.entry entry'.is in
-      let page = one_page (kind_home_count kind sectors) directory sound at.0 at'.0 entry entry' (sym home ∙ same ∙ home') in
+      let page = one_page (home_count sectors) directory sound at.0 at'.0 entry entry' (sym home ∙ same ∙ home') in
       pages.distinct i j at.0 less at.1 (at'.1 ∙ ap Some (sym page));
 }
 
 -- A page of which the list names the home is that page of the list.
-module _ (kind : Journals) (sectors : ℕ) (directory : Directory) (list : List FilePage) (homes : List ℕ) (given : ℕ → List ℕ) (old new : Image)
-    (sound : IsSoundDirectory (kind_home_count kind sectors) (entry_of directory)) (same_directory : (f : ℕ) → entry_of directory f ≡ directory_entry old f)
+module _ (sectors : ℕ) (directory : Directory) (list : List FilePage) (homes : List ℕ) (given : ℕ → List ℕ) (old new : Image)
+    (sound : IsSoundDirectory (home_count sectors) (entry_of directory)) (same_directory : (f : ℕ) → entry_of directory f ≡ directory_entry old f)
     (of_list : AreHomesOf directory list homes)
-    (kept : IsKept by_kind sectors old (StandsForPages by_kind (changed (standing old) homes (λ i. padded_page (inside_at directory list i) (given i)))) new) where
+    (kept : IsKept one_journal sectors old (StandsForPages one_journal (changed (standing old) homes (λ i. padded_page (inside_at directory list i) (given i)))) new) where
   abbrev cut : ℕ → List ℕ
   cut i = padded_page (inside_at directory list i) (given i)
 
@@ -110,7 +109,7 @@ module _ (kind : Journals) (sectors : ℕ) (directory : Directory) (list : List 
       ∙ trimmed-trimmed (bytes_inside e.info.length k) (given j) small
 
   -- what stands for the homes
-  pub homes_put : AreHomes (kind_home_count kind sectors) homes → PutsHomes sectors directory list given old new
+  pub homes_put : AreHomes (home_count sectors) homes → PutsHomes sectors directory list given old new
   unfolding changed
   homes_put are = record {
     listed = λ i j p at lt.
@@ -165,7 +164,7 @@ module _ (kind : Journals) (sectors : ℕ) (directory : Directory) (list : List 
           let p = at.0 in
           let entry = of_list.entries some.0 p at.1 in
           let home : entry.entry.first + p.page ≡ e.first + k = sym (of_list.each some.0 p at.1 ∙ home_of-entry directory p entry.entry entry.is) ∙ some.3 in
-          let file : p.file ≡ f = one_file (kind_home_count kind sectors) (entry_of directory) sound p.file f (entry.entry.first + p.page) entry.entry e entry.is in_memory
+          let file : p.file ≡ f = one_file (home_count sectors) (entry_of directory) sound p.file f (entry.entry.first + p.page) entry.entry e entry.is in_memory
           (is_home entry.entry p.page entry.inside) (subst (λ h. IsHomeOf e h) (sym home) (is_home e k lt)) in
           let same_entry : entry.entry ≡ e = same_Some entry.entry e (sym entry.is ∙ ap (entry_of directory) file ∙ in_memory) in
           let first : entry.entry.first ≡ e.first = ap (λ x. x.first) same_entry in
@@ -180,25 +179,25 @@ module _ (kind : Journals) (sectors : ℕ) (directory : Directory) (list : List 
           (place_cases (λ j. slice_index homes j) (e.first + k) (length homes))
 
 -- at any moment the image stands for the files before or after
-pub stands_either : (kind : Journals) (sectors : ℕ) (directory : Directory) (list : List FilePage) (homes : List ℕ) (given : ℕ → List ℕ) (old new : Image)
-    → IsSoundDirectory (kind_home_count kind sectors) (entry_of directory) → ((f : ℕ) → entry_of directory f ≡ directory_entry old f) → AreHomesOf directory list homes
+pub stands_either : (sectors : ℕ) (directory : Directory) (list : List FilePage) (homes : List ℕ) (given : ℕ → List ℕ) (old new : Image)
+    → IsSoundDirectory (home_count sectors) (entry_of directory) → ((f : ℕ) → entry_of directory f ≡ directory_entry old f) → AreHomesOf directory list homes
     → (files : ℕ → Option FileInfo) (before after : ℕ → ℕ → List ℕ) → StandsFor sectors files before old → Changes files list given before after
-    → IsKept by_kind sectors old (StandsForEitherPages by_kind (standing old) (changed (standing old) homes (λ i. padded_page (inside_at directory list i) (given i)))) new
+    → IsKept one_journal sectors old (StandsForEitherPages one_journal (standing old) (changed (standing old) homes (λ i. padded_page (inside_at directory list i) (given i)))) new
     → StandsForEither sectors files before after new
-stands_either kind sectors directory list homes given old new sound same_directory of_list files before after was changes kept = ⊎_elim
+stands_either sectors directory list homes given old new sound same_directory of_list files before after was changes kept = ⊎_elim
     (λ stands. inl (stands_kept sectors old new (record { stands = stands; journal = kept.journal; outside = kept.outside }) files before was))
-    (λ stands. inr (stands_changed kind sectors directory list homes given old new sound same_directory of_list
+    (λ stands. inr (stands_changed sectors directory list homes given old new sound same_directory of_list
     (record { stands = stands; journal = kept.journal; outside = kept.outside }) files before after was changes))
     kept.stands
 
 -- and so do the homes
-pub homes_either : (kind : Journals) (sectors : ℕ) (directory : Directory) (list : List FilePage) (homes : List ℕ) (given : ℕ → List ℕ) (old new : Image)
-    → IsSoundDirectory (kind_home_count kind sectors) (entry_of directory) → ((f : ℕ) → entry_of directory f ≡ directory_entry old f) → AreHomesOf directory list homes
-    → AreHomes (kind_home_count kind sectors) homes
-    → IsKept by_kind sectors old (StandsForEitherPages by_kind (standing old) (changed (standing old) homes (λ i. padded_page (inside_at directory list i) (given i)))) new
+pub homes_either : (sectors : ℕ) (directory : Directory) (list : List FilePage) (homes : List ℕ) (given : ℕ → List ℕ) (old new : Image)
+    → IsSoundDirectory (home_count sectors) (entry_of directory) → ((f : ℕ) → entry_of directory f ≡ directory_entry old f) → AreHomesOf directory list homes
+    → AreHomes (home_count sectors) homes
+    → IsKept one_journal sectors old (StandsForEitherPages one_journal (standing old) (changed (standing old) homes (λ i. padded_page (inside_at directory list i) (given i)))) new
     → PutsHomesOrNone sectors directory list given old new
-homes_either kind sectors directory list homes given old new sound same_directory of_list are kept = ⊎_elim
+homes_either sectors directory list homes given old new sound same_directory of_list are kept = ⊎_elim
     (λ stands. inl (record { stands = stands; journal = kept.journal; outside = kept.outside }))
-    (λ stands. inr (homes_put kind sectors directory list homes given old new sound same_directory of_list
+    (λ stands. inr (homes_put sectors directory list homes given old new sound same_directory of_list
     (record { stands = stands; journal = kept.journal; outside = kept.outside }) are))
     kept.stands

@@ -1,8 +1,8 @@
 -- How pages go on being copied, and how it ends.
-use Rattle.sync_journal.{proofs.OldJournals.{places_apart, place_behind}, specs.{Map.{home_rank}, Standing.{place_or_home_in}}}
-use Rattle.file_store.proofs.{Causes.{is_this, same_Err}, Looking.{ok_is_no_err}, Names.{◌≡◌, ◌+◌, ◌<◌, ◌≤◌, ℕ, List, length, Option, None, Some, Result, Ok, Err, ⊎_elim, inl, inr, refl, sym, ap, subst, ◌∙◌, arith, IsErrAnd, Image, Names, NamesOnce, Nothing, Ghosts}}
-use Rattle.file_store.{proofs.{Names.{once_named, once_apart, once_wider, old_homes, StandsAsListed, Journals, Single, Paired, sizes_before, home_count_in, IsPageSector, kind_home_count, RunsOnDevice}, Openings.{content_is}}, specs.Directory.{home_end, IsSoundDirectory}}
-use Rattle.file_store.specs.{Faults.{old_fault}, Making.{Makes}, Opened.{LooksAt}, Store.{entry_of}, Upgrade.{IsOldStore, IsOldHead, IsOldFile, IsOldEntry, IsOldPage, IsOldAsked, HasUpgradeCauses, old_entry, old_place}, Upgraded.{IsCopiable, CopiesPages}}
+use Rattle.file_store.proofs.{Causes.{is_this, same_Err}, Looking.{ok_is_no_err}, Names.{◌≡◌, ◌+◌, ◌<◌, ◌≤◌, ℕ, length, Option, None, Some, Result, Ok, Err, ⊎_elim, inl, inr, refl, sym, ap, subst, ◌∙◌, arith, IsErrAnd, Image, Names, NamesOnce, Nothing, Ghosts}}
+use Rattle.file_store.proofs.Names.{once_named, once_apart, once_wider, home_count, home_rank, IsPageSector, old_home_count, old_homes, old_sizes, old_place, place_or_home_in, places_apart, place_behind, sizes_under, OldJournal, StandsAsFound, RunsOnDevice, One}
+use Rattle.file_store.proofs.Openings.{content_is}
+use Rattle.file_store.specs.{Directory.{home_end, IsSoundDirectory}, Faults.{old_fault}, Making.{Makes}, Opened.{LooksAt}, Store.{entry_of}, Upgrade.{IsOldStore, IsOldHead, IsOldFile, IsOldEntry, IsOldPage, IsOldAsked, HasUpgradeCauses, old_entry}, Upgraded.{IsCopiable, CopiesPages}}
 use Rattle.file_store.specs.declared.{directory.Entry.{Entry}, faults.{OpenFault.{OpenFault, TheVariants.{Device as OpenDevice}}, UpgradeFault.{UpgradeFault, TheVariants.{OldDevice, NewDevice}}}, old_store.OldStore.{OldStore}}
 
 old_no_new : ◌≡◌ {A = UpgradeFault} OldDevice NewDevice → ⊥
@@ -62,84 +62,86 @@ causes_before fault old new x looks later = record {
   new_still = λ _. refl;
 }
 
--- the head of the old store lies before all pages
-head_low : (kind : Journals) (image : Image) (k : ℕ) → IsOldHead kind image k → k < (sizes_before kind).body
-head_low Single image k = ⊎_elim (⊎_elim (λ low. omega (arith, low)) (λ at. omega (arith, at))) (⊎_elim (λ gate. omega (arith, gate)) (λ map. omega (arith, map.1.1)))
-head_low Paired image k = ⊎_elim (⊎_elim (λ low. omega (arith, low)) (λ at. omega (arith, at))) (⊎_elim (λ gate. omega (arith, gate)) (λ map. omega (arith, map.1.1)))
+-- the head of a store of layout 1 lies before all pages
+head_low : (image : Image) (k : ℕ) → IsOldHead One image k → k < 4
+head_low image k = ⊎_elim (⊎_elim (λ low. omega (arith, low)) (λ at. omega (arith, at))) (⊎_elim (λ gate. omega (arith, gate)) (λ map. omega (arith, map.1.1)))
 
--- where a page stands, in the words of the journal's list of homes
-listed : (kind : Journals) (homes : List ℕ) (image : Image) → StandsAsListed (sizes_before kind) homes image → (h k : ℕ) → IsPageSector (old_place kind image h) k
-    → IsPageSector (place_or_home_in (sizes_before kind) h (home_rank homes h)) k
-listed kind homes image stands h k at = subst (λ first. IsPageSector first k) (stands.at h) at
+module _ (image : Image) (journal : OldJournal) (is : journal.version ≡ One) (stands : StandsAsFound journal image) where
+  -- where a page stands, in the words of the journal's list of homes
+  listed : (h k : ℕ) → IsPageSector (old_place One image h) k → IsPageSector (place_or_home_in (old_sizes journal) h (home_rank (old_homes journal) h)) k
+  listed h k at = subst (λ first. IsPageSector first k) (stands.at h) (subst (λ v. IsPageSector (old_place v image h) k) (sym is) at)
 
-file_behind : (kind : Journals) (homes : List ℕ) (image : Image) → StandsAsListed (sizes_before kind) homes image → (o : Option Entry) (k : ℕ) → IsOldEntry kind image o k → (sizes_before kind).body ≤ k
-file_behind kind homes image stands None k none = absurd none
-file_behind kind homes image stands (Some e) k at = place_behind kind (e.first + at.0) k (home_rank homes (e.first + at.0)) (listed kind homes image stands (e.first + at.0) k at.2)
+  file_behind : (o : Option Entry) (k : ℕ) → IsOldEntry One image o k → 4 ≤ k
+  file_behind None k none = absurd none
+  file_behind (Some e) k at =
+      let from = place_behind journal.version journal.is_open (e.first + at.0) k (home_rank (old_homes journal) (e.first + at.0)) (listed (e.first + at.0) k at.2) in
+      subst (λ v. (sizes_under v journal.is_open).body ≤ k) is from
+
+  -- two pages have no sector in common
+  pages_apart : length (old_homes journal) ≤ (old_sizes journal).most → (a b k : ℕ) → IsPageSector (old_place One image a) k → IsPageSector (old_place One image b) k → a ≡ b
+  pages_apart few a b k at_a at_b = places_apart journal.version journal.is_open (old_homes journal) few a b k (listed a k at_a) (listed b k at_b)
 
 -- the head of the old store is asked for, and then its files
-pub copied_old_once : {D : Type 0} (g : Ghosts D) (kind : Journals) (homes : List ℕ) (old read new : D) → g.content read ≡ g.content old → StandsAsListed (sizes_before kind) homes (g.content old)
-    → NamesOnce (IsOldHead kind (g.content old)) (g.asked old) (g.asked read) → NamesOnce (IsOldFile kind (g.content read)) (g.asked read) (g.asked new)
-    → NamesOnce (IsOldAsked kind (g.content old)) (g.asked old) (g.asked new)
-copied_old_once g kind homes old read new same stands head files =
+pub copied_old_once : {D : Type 0} (g : Ghosts D) (journal : OldJournal) (old read new : D) → journal.version ≡ One → g.content read ≡ g.content old → StandsAsFound journal (g.content old)
+    → NamesOnce (IsOldHead One (g.content old)) (g.asked old) (g.asked read) → NamesOnce (IsOldFile One (g.content read)) (g.asked read) (g.asked new)
+    → NamesOnce (IsOldAsked One (g.content old)) (g.asked old) (g.asked new)
+copied_old_once g journal old read new is same stands head files =
     let image = g.content old in
-    once_apart (IsOldHead kind image) (IsOldFile kind image) (IsOldAsked kind image) (g.asked old) (g.asked read) (g.asked new) (λ k at. inl at) (λ k at. inr at)
-    (λ k first second. let low = head_low kind image k first in let behind = file_behind kind homes image stands (old_entry kind image second.0) k second.1 in omega (arith, low, behind))
-    head (subst (λ (i : Image). NamesOnce (IsOldFile kind i) (g.asked read) (g.asked new)) same files)
+    once_apart (IsOldHead One image) (IsOldFile One image) (IsOldAsked One image) (g.asked old) (g.asked read) (g.asked new) (λ k at. inl at) (λ k at. inr at)
+    (λ k first second. let low = head_low image k first in let behind = file_behind image journal is stands (old_entry One image second.0) k second.1 in omega (arith, low, behind))
+    head (subst (λ (i : Image). NamesOnce (IsOldFile One i) (g.asked read) (g.asked new)) same files)
 
 -- a file's pages, and one more where it stands
-pub page_once : {D : Type 0} (g : Ghosts D) (kind was : Journals) (homes : List ℕ) (e : Entry) (k more : ℕ) (old mid new : D) → k < more → was ≡ kind → g.content mid ≡ g.content old
-    → StandsAsListed (sizes_before kind) homes (g.content old) → length homes ≤ (sizes_before kind).most → NamesOnce (IsOldPage kind (g.content old) e k) (g.asked old) (g.asked mid)
-    → Names (IsPageSector (old_place was (g.content mid) (e.first + k))) (g.asked mid) (g.asked new) → NamesOnce (IsOldPage kind (g.content old) e more) (g.asked old) (g.asked new)
-page_once g kind was homes e k more old mid new less is same stands few so_far page =
+pub page_once : {D : Type 0} (g : Ghosts D) (journal : OldJournal) (e : Entry) (k more : ℕ) (old mid new : D) → k < more → journal.version ≡ One → g.content mid ≡ g.content old
+    → StandsAsFound journal (g.content old) → length (old_homes journal) ≤ (old_sizes journal).most → NamesOnce (IsOldPage One (g.content old) e k) (g.asked old) (g.asked mid)
+    → Names (IsPageSector (old_place journal.version (g.content mid) (e.first + k))) (g.asked mid) (g.asked new) → NamesOnce (IsOldPage One (g.content old) e more) (g.asked old) (g.asked new)
+page_once g journal e k more old mid new less is same stands few so_far page =
     let image = g.content old in
-    let V : ℕ → Type 0 = IsPageSector (old_place kind image (e.first + k)) in
-    once_apart (IsOldPage kind image e k) V (IsOldPage kind image e more) (g.asked old) (g.asked mid) (g.asked new)
+    let V : ℕ → Type 0 = IsPageSector (old_place One image (e.first + k)) in
+    once_apart (IsOldPage One image e k) V (IsOldPage One image e more) (g.asked old) (g.asked mid) (g.asked new)
     (λ s at. (at.0, omega (arith, at.1, less), at.2)) (λ s at. (k, less, at))
-    (λ s before now. let one = places_apart kind homes few (e.first + before.0) (e.first + k) s (listed kind homes image stands (e.first + before.0) s before.2) (listed kind homes image stands (e.first + k) s now) in
-    omega (arith, one, before.1))
+    (λ s before now. let one = pages_apart image journal is stands few (e.first + before.0) (e.first + k) s before.2 now in omega (arith, one, before.1))
     so_far
-    (once_named V (IsPageSector (old_place was (g.content mid) (e.first + k))) (g.asked mid) (g.asked new) (λ s at.
-    subst (λ (held : Image). IsPageSector (old_place kind held (e.first + k)) s) same (subst (λ b. IsPageSector (old_place b (g.content mid) (e.first + k)) s) is at)) page)
+    (once_named V (IsPageSector (old_place journal.version (g.content mid) (e.first + k))) (g.asked mid) (g.asked new) (λ s at.
+    subst (λ (held : Image). IsPageSector (old_place One held (e.first + k)) s) same (subst (λ v. IsPageSector (old_place v (g.content mid) (e.first + k)) s) is at)) page)
 
 -- a sector in which a page of one of the first n files stands
-abbrev pub IsOldFirst : Journals → Image → ℕ → ℕ → Type 0
-IsOldFirst kind image n k = (f : ℕ) × (f < n) × IsOldEntry kind image (old_entry kind image f) k
+abbrev pub IsOldFirst : Image → ℕ → ℕ → Type 0
+IsOldFirst image n k = (f : ℕ) × (f < n) × IsOldEntry One image (old_entry One image f) k
 
 -- two files have no sector in common
-module _ (kind : Journals) (image : Image) (store : OldStore) (n : ℕ) (known : IsOldStore kind image store) (few : length (old_homes store.journal) ≤ (sizes_before kind).most)
+module _ (image : Image) (store : OldStore) (n : ℕ) (is : store.journal.version ≡ One) (known : IsOldStore One image store) (few : length (old_homes store.journal) ≤ (old_sizes store.journal).most)
     (sound : IsSoundDirectory n (entry_of store.directory)) (f h s : ℕ) (less : f < h) where
-  files_apart : (o p : Option Entry) → old_entry kind image f ≡ o → old_entry kind image h ≡ p → IsOldEntry kind image o s → IsOldEntry kind image p s → ⊥
+  files_apart : (o p : Option Entry) → old_entry One image f ≡ o → old_entry One image h ≡ p → IsOldEntry One image o s → IsOldEntry One image p s → ⊥
   files_apart None p is_a is_b at_a at_b = at_a
   files_apart (Some a) None is_a is_b at_a at_b = at_b
   files_apart (Some a) (Some b) is_a is_b at_a at_b =
-      let homes = old_homes store.journal in
-      let one : a.first + at_a.0 ≡ b.first + at_b.0 = places_apart kind homes few (a.first + at_a.0) (b.first + at_b.0) s
-      (listed kind homes image known.stands (a.first + at_a.0) s at_a.2) (listed kind homes image known.stands (b.first + at_b.0) s at_b.2) in
+      let one : a.first + at_a.0 ≡ b.first + at_b.0 = pages_apart image store.journal is known.stands few (a.first + at_a.0) (b.first + at_b.0) s at_a.2 at_b.2 in
       sound.apart f h (a.first + at_a.0) a b less (known.entries f ∙ is_a) (known.entries h ∙ is_b) (omega arith, omega (arith, at_a.1)) (omega (arith, one), omega (arith, one, at_b.1))
 
 -- some files, and one more
-pub file_once : {D : Type 0} (g : Ghosts D) (kind : Journals) (store : OldStore) (n f : ℕ) (old mid new : D) → g.content mid ≡ g.content old → IsOldStore kind (g.content old) store
-    → length (old_homes store.journal) ≤ (sizes_before kind).most → IsSoundDirectory n (entry_of store.directory) → NamesOnce (IsOldFirst kind (g.content old) f) (g.asked old) (g.asked mid)
-    → NamesOnce (IsOldEntry kind (g.content mid) (entry_of store.directory f)) (g.asked mid) (g.asked new) → NamesOnce (IsOldFirst kind (g.content old) (f + 1)) (g.asked old) (g.asked new)
-file_once g kind store n f old mid new same known few sound so_far entry =
+pub file_once : {D : Type 0} (g : Ghosts D) (store : OldStore) (n f : ℕ) (old mid new : D) → store.journal.version ≡ One → g.content mid ≡ g.content old → IsOldStore One (g.content old) store
+    → length (old_homes store.journal) ≤ (old_sizes store.journal).most → IsSoundDirectory n (entry_of store.directory) → NamesOnce (IsOldFirst (g.content old) f) (g.asked old) (g.asked mid)
+    → NamesOnce (IsOldEntry One (g.content mid) (entry_of store.directory f)) (g.asked mid) (g.asked new) → NamesOnce (IsOldFirst (g.content old) (f + 1)) (g.asked old) (g.asked new)
+file_once g store n f old mid new is same known few sound so_far entry =
     let image = g.content old in
-    let V : ℕ → Type 0 = IsOldEntry kind image (old_entry kind image f) in
-    once_apart (IsOldFirst kind image f) V (IsOldFirst kind image (f + 1)) (g.asked old) (g.asked mid) (g.asked new)
+    let V : ℕ → Type 0 = IsOldEntry One image (old_entry One image f) in
+    once_apart (IsOldFirst image f) V (IsOldFirst image (f + 1)) (g.asked old) (g.asked mid) (g.asked new)
     (λ s at. (at.0, omega (arith, at.1), at.2)) (λ s at. (f, omega arith, at))
-    (λ s before now. files_apart kind image store n known few sound before.0 f s before.1 (old_entry kind image before.0) (old_entry kind image f) refl refl before.2 now)
+    (λ s before now. files_apart image store n is known few sound before.0 f s before.1 (old_entry One image before.0) (old_entry One image f) refl refl before.2 now)
     so_far
-    (once_wider (IsOldEntry kind (g.content mid) (entry_of store.directory f)) V (g.asked mid) (g.asked new) (λ s at.
-    subst (λ (o : Option Entry). IsOldEntry kind image o s) (known.entries f) (subst (λ (i : Image). IsOldEntry kind i (entry_of store.directory f) s) same at)) entry)
+    (once_wider (IsOldEntry One (g.content mid) (entry_of store.directory f)) V (g.asked mid) (g.asked new) (λ s at.
+    subst (λ (o : Option Entry). IsOldEntry One image o s) (known.entries f) (subst (λ (i : Image). IsOldEntry One i (entry_of store.directory f) s) same at)) entry)
 
 module _ {D E : Type 0} (g : Ghosts D) (h : Ghosts E) where
   -- what was known of the store is known of it still where it is only read
-  pub copiable_still : (kind : Journals) (store : OldStore) (old old' : D) (n m : ℕ) → m ≡ n → RunsOnDevice g Nothing old old' → IsCopiable g kind store old n → IsCopiable g kind store old' m
-  copiable_still kind store old old' n m same run copied = record {
-    before = copied.before;
-    sound = subst (λ (s : ℕ). IsSoundDirectory (home_count_in (sizes_before kind) s) (entry_of store.directory)) (sym run.size) copied.sound;
+  pub copiable_still : (store : OldStore) (old old' : D) (n m : ℕ) → m ≡ n → RunsOnDevice g Nothing old old' → IsCopiable g store old n → IsCopiable g store old' m
+  copiable_still store old old' n m same run copied = record {
+    version = copied.version;
+    sound = subst (λ (s : ℕ). IsSoundDirectory (old_home_count One s) (entry_of store.directory)) (sym run.size) copied.sound;
     few = copied.few;
-    found = λ k. subst (λ (image : Image). IsOldStore kind image store) (sym (content_is g old old' (run.touches k))) (copied.found (run.kept k));
-    fits = λ f e is. subst (λ s. home_end e ≤ kind_home_count kind s) (sym same) (copied.fits f e is);
+    found = λ k. subst (λ (image : Image). IsOldStore One image store) (sym (content_is g old old' (run.touches k))) (copied.found (run.kept k));
+    fits = λ f e is. subst (λ s. home_end e ≤ home_count s) (sym same) (copied.fits f e is);
   }
 
   module _ {T : Type 0} (R W : ℕ → Type 0) (old old' : D) (new new' : E) (old_run : RunsOnDevice g Nothing old old') (once_old : g.keeps_model old' → NamesOnce R (g.asked old) (g.asked old')) (run : Makes h W new new') where

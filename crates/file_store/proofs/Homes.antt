@@ -1,5 +1,5 @@
 -- The homes of pages.
-use Rattle.file_store.proofs.Names.{◌≡◌, ℕ, ◌+◌, ◌*◌, ◌<◌, ◌≤◌, ⊎_elim, Option, Some, None, refl, sym, ap, subst, ◌∙◌, arith, cases_eq, cases_lt, none-some, same_Some, option_map, kind_home_count, Journals, FileInfo, FilePage}
+use Rattle.file_store.proofs.Names.{◌≡◌, ℕ, ◌+◌, ◌*◌, ◌<◌, ◌≤◌, ⊎_elim, Option, Some, None, refl, sym, ap, subst, ◌∙◌, arith, cases_eq, cases_lt, none-some, same_Some, option_map, home_count, FileInfo, FilePage}
 use Rattle.file_store.specs.{declared.directory.Entry.{Entry}, declared.directory.Directory.{Directory}, Directory.{IsHomeOf, IsSoundDirectory}, Standing.{IsPageOf}}
 use Rattle.file_store.specs.{Store.{entry_of, entry_home, home_of, inside_in, inside_named, IsEntryPage}, Layout.{bytes_inside}}
 
@@ -16,15 +16,15 @@ home_of-entry directory p e is = ap (λ o. entry_home o p.page) is
 pub is_home : (e : Entry) (k : ℕ) → 4096 * k < e.info.length → IsHomeOf e (e.first + k)
 is_home e k inside = (omega arith, omega (arith, inside))
 
-pub entry_page : (kind : Journals) (sectors : ℕ) (directory : Directory) → IsSoundDirectory (kind_home_count kind sectors) (entry_of directory) → (p : FilePage)
+pub entry_page : (sectors : ℕ) (directory : Directory) → IsSoundDirectory (home_count sectors) (entry_of directory) → (p : FilePage)
     → IsPageOf (λ f. option_map (λ e. e.info) (entry_of directory f)) p.file p.page → IsEntryPage directory p
-entry_page kind sectors directory sound p inside =
+entry_page sectors directory sound p inside =
     let b = entry_behind (entry_of directory p.file) inside.0 inside.1 in
     let lt : 4096 * p.page < b.0.info.length = subst (λ (i : FileInfo). 4096 * p.page < i.length) (sym b.2) inside.2 in
     record { entry = b.0; is = b.1; inside = lt; fits = omega (arith, sound.within p.file b.0 b.1, lt) }
 
-pub home_inside : (kind : Journals) (sectors : ℕ) (directory : Directory) → IsSoundDirectory (kind_home_count kind sectors) (entry_of directory) → (p : FilePage) → (at : IsEntryPage directory p) → at.entry.first + p.page < kind_home_count kind sectors
-home_inside kind sectors directory sound p at = omega (arith, sound.within p.file at.entry at.is, at.inside)
+pub home_inside : (sectors : ℕ) (directory : Directory) → IsSoundDirectory (home_count sectors) (entry_of directory) → (p : FilePage) → (at : IsEntryPage directory p) → at.entry.first + p.page < home_count sectors
+home_inside sectors directory sound p at = omega (arith, sound.within p.file at.entry at.is, at.inside)
 
 -- a home belongs to one page of one file
 pub one_file : (homes : ℕ) (entry : ℕ → Option Entry) → IsSoundDirectory homes entry → (f g h : ℕ) (a b : Entry) → entry f ≡ Some a → entry g ≡ Some b → IsHomeOf a h → IsHomeOf b h → f ≡ g

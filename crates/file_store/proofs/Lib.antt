@@ -6,7 +6,6 @@ pub mod Rests
 pub mod Images
 pub mod Homes
 pub mod Openings
-pub mod Resumes
 pub mod Mounted
 pub mod Looking
 pub mod Outside

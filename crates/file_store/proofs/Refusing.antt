@@ -1,7 +1,7 @@
 -- Why an upgrade is refused.
 use Rattle.file_store.proofs.{Causes.{is_this, same_Err}, Marking.{LeavesNoPart}, Names.{◌≡◌, ◌⊎◌, ◌≤◌, ℕ, Result, Err, inl, inr, refl, ⊎_elim, sym, ap, subst, ◌∙◌, arith, IsErrAnd, IsErrOf, Image, Nothing, Touches, AsksOnly, Ghosts}}
-use Rattle.file_store.{proofs.Names.{Journals, Paired, NamesOnce, asks_once, RunsOnDevice}, specs.{Faults.{old_fault}, Layout.{IsMark}, Standing.{IsBadOldLayout, IsBadOldJournal}, Store.{entry_of}}}
-use Rattle.file_store.specs.{Upgrade.{old_entry, IsTooSmall, IsOldAsked, IsUpgradeSector, IsUpgradeOf, IsUpgradeIfMarked, HasUpgradeCauses, IsTooSmall.{FewSectors, FewHomes}}, Upgraded.{HasRoomFor}}
+use Rattle.file_store.{proofs.Names.{NamesOnce, asks_once, RunsOnDevice, One, IsBadOld}, specs.{Faults.{old_fault}, Layout.{IsMark}, Standing.{IsBadLayoutIn}, Store.{entry_of}}}
+use Rattle.file_store.specs.{Upgrade.{old_entry, IsTooSmall, IsOldAsked, IsUpgradeSector, IsUpgradeIfMarked, HasUpgradeCauses, IsTooSmall.{FewSectors, FewHomes}}, Upgraded.{HasRoomFor}}
 use Rattle.file_store.specs.{Upgraded.{HasCheckCauses, UpgradesStore}, declared.{directory.Directory.{Directory}, faults.OpenFault.{OpenFault, TheVariants.{Device, BadJournal}}}}
 use Rattle.file_store.specs.declared.faults.UpgradeFault.{UpgradeFault, TheVariants.{OldDevice, OldLayout, OldJournal, NewDevice, NewSmall, Formatted}}
 
@@ -27,9 +27,9 @@ pub when_marking : (NewDevice ≡ OldLayout → ⊥) × ((NewDevice ≡ OldJourn
 when_marking = (λ e. cc, (λ e. cc, (λ e. cc, λ e. cc)))
 
 -- where there is room it is not too small
-pub room_is_not_small : (kind : Journals) (sectors : ℕ) (directory : Directory) (old : Image) → ((f : ℕ) → entry_of directory f ≡ old_entry kind old f) → HasRoomFor kind sectors directory → IsTooSmall kind sectors old → ⊥
-room_is_not_small kind sectors directory old same has (FewSectors few) = let room = has.room in omega (arith, few, room)
-room_is_not_small kind sectors directory old same has (FewHomes f e is less) = let fits = has.fits f e (same f ∙ is) in omega (arith, fits, less)
+pub room_is_not_small : (sectors : ℕ) (directory : Directory) (old : Image) → ((f : ℕ) → entry_of directory f ≡ old_entry One old f) → HasRoomFor sectors directory → IsTooSmall sectors old → ⊥
+room_is_not_small sectors directory old same has (FewSectors few) = let room = has.room in omega (arith, few, room)
+room_is_not_small sectors directory old same has (FewHomes f e is less) = let fits = has.fits f e (same f ∙ is) in omega (arith, fits, less)
 
 -- a look at the new device, after the old one did not fail
 pub causes_checked : {T U : Type 0} (fault : UpgradeFault) (a b x y : ℕ) → b ≡ a → (fault ≡ OldDevice → ⊥) → x ≤ y → HasCheckCauses {T = T} x y (Err fault) → HasUpgradeCauses {T = U} a b x y (Err fault)
@@ -42,33 +42,32 @@ causes_checked fault a b x y calm other later causes = record {
   new_still = λ others. causes.still (λ e. others (ap Err (same_Err _ _ e)));
 }
 
-module _ {D E T : Type 0} (g : Ghosts D) (h : Ghosts E) (kind : Journals) (old old' : D) (new new' : E) where
+module _ {D E T : Type 0} (g : Ghosts D) (h : Ghosts E) (old old' : D) (new new' : E) where
   pub upgrade_refused : (fault : UpgradeFault) (r : Result T UpgradeFault) → IsErrAnd r (λ f. f ≡ fault) → RunsOnDevice g Nothing old old' → h.sector_count new' ≡ h.sector_count new → (h.keeps_model new' → h.keeps_model new)
-      → (g.keeps_model old' → NamesOnce (IsOldAsked kind (g.content old)) (g.asked old) (g.asked old')) → (g.keeps_model old' → AsksOnly h (IsUpgradeSector kind (g.content old)) new new')
+      → (g.keeps_model old' → NamesOnce (IsOldAsked One (g.content old)) (g.asked old) (g.asked old')) → (g.keeps_model old' → AsksOnly h (IsUpgradeSector (g.content old)) new new')
       → HasUpgradeCauses {T = T} (g.failures old) (g.failures old') (h.failures new) (h.failures new') (Err fault)
-      → (g.keeps_model old' → h.keeps_model new' → LeavesNoPart h kind (IsUpgradeIfMarked kind (g.sector_count old) (h.sector_count new) (g.content old)) (IsUpgradeOf Paired (g.sector_count old) (h.sector_count new) (g.content old)) new new')
-      → (g.keeps_model old' → fault ≡ OldLayout → IsBadOldLayout kind (g.sector_count old) (g.content old))
-      → (g.keeps_model old' → IsBadOldLayout kind (g.sector_count old) (g.content old) → (fault ≡ OldLayout) ⊎ (fault ≡ OldDevice))
-      → (g.keeps_model old' → fault ≡ OldJournal → IsBadOldJournal kind (g.sector_count old) (g.content old))
-      → (g.keeps_model old' → IsBadOldJournal kind (g.sector_count old) (g.content old) → (fault ≡ OldLayout) ⊎ ((fault ≡ OldJournal) ⊎ (fault ≡ OldDevice)))
-      → (g.keeps_model old' → fault ≡ NewSmall → IsTooSmall kind (h.sector_count new) (g.content old))
-      → (g.keeps_model old' → IsTooSmall kind (h.sector_count new) (g.content old) → (fault ≡ OldLayout) ⊎ ((fault ≡ OldJournal) ⊎ ((fault ≡ OldDevice) ⊎ (fault ≡ NewSmall))))
+      → (g.keeps_model old' → h.keeps_model new' → LeavesNoPart h (IsUpgradeIfMarked (g.sector_count old) (h.sector_count new) (g.content old)) new new')
+      → (g.keeps_model old' → fault ≡ OldLayout → IsBadLayoutIn One (g.sector_count old) (g.content old))
+      → (g.keeps_model old' → IsBadLayoutIn One (g.sector_count old) (g.content old) → (fault ≡ OldLayout) ⊎ (fault ≡ OldDevice))
+      → (g.keeps_model old' → fault ≡ OldJournal → IsBadOld One (g.sector_count old) (g.content old))
+      → (g.keeps_model old' → IsBadOld One (g.sector_count old) (g.content old) → (fault ≡ OldLayout) ⊎ ((fault ≡ OldJournal) ⊎ (fault ≡ OldDevice)))
+      → (g.keeps_model old' → fault ≡ NewSmall → IsTooSmall (h.sector_count new) (g.content old))
+      → (g.keeps_model old' → IsTooSmall (h.sector_count new) (g.content old) → (fault ≡ OldLayout) ⊎ ((fault ≡ OldJournal) ⊎ ((fault ≡ OldDevice) ⊎ (fault ≡ NewSmall))))
       → (h.keeps_model new' → fault ≡ Formatted → IsMark (h.content new 0)) → (h.keeps_model new' → IsMark (h.content new 0) → Touches h Nothing new new')
       → (h.keeps_model new' → (fault ≡ OldLayout) ⊎ ((fault ≡ OldJournal) ⊎ ((fault ≡ NewSmall) ⊎ (fault ≡ Formatted))) → Touches h Nothing new new')
-      → UpgradesStore g h kind old old' new new' r
+      → UpgradesStore g h old old' new new' r
   upgrade_refused fault r is run size kept once_old asks causes leaves old_layout good_layout old_journal good_journal new_small large formatted marked unwritten =
-      subst (λ r. UpgradesStore g h kind old old' new new' r) (sym (is_this r fault is)) (record {
+      subst (λ r. UpgradesStore g h old old' new new' r) (sym (is_this r fault is)) (record {
         ok = λ k k'. tt;
         marked = λ k. tt;
         synced = λ k. tt;
-        any_moment = λ k k'. (leaves k k').any_moment;
-        blocks = λ k k'. (leaves k k').blocks;
+        any_moment = leaves;
         old_size = run.size;
         size = size;
         old_kept = run.kept;
         kept = kept;
         only_read = run.touches;
-        asks_old = λ k. asks_once g (IsOldAsked kind (g.content old)) (IsOldAsked kind (g.content old)) old old' (λ s at. at) (once_old k);
+        asks_old = λ k. asks_once g (IsOldAsked One (g.content old)) (IsOldAsked One (g.content old)) old old' (λ s at. at) (once_old k);
         once_old = once_old;
         asks = asks;
         old_layout = λ k e. old_layout k (same_Err _ _ e);

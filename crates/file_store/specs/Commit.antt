@@ -1,14 +1,14 @@
 -- Pages of files, changed all at once: failure-atomic msync (Park, Kelly and Shen, EuroSys 2013).
 use Rattle.std.specs.Prelude.{ℕ, ◌<◌, ◌≤◌, ◌≡◌, ◌⊎◌, List, length, slice_get, Option, Some, None, Result, OnOk, IsErrOf}
-use Rattle.sync_journal.specs.Layout.{page_limit}
+use Rattle.sync_journal.specs.Layout.{page_limit, IsCommitted}
 use Rattle.disk_model.specs.Stop.{Image}
 use Rattle.disk_model.specs.Moments.{Touches, AsksOnly, LeavesOnly, LeavesNow}
 use Rattle.disk_model.specs.declared.sector_disk.SectorDisk.{Ghosts}
 use Rattle.sync_journal.specs.declared.faults.CommitFault.{CommitFault}
 use Rattle.sync_journal.specs.declared.faults.CommitFault.TheVariants.{Source}
 use Rattle.sync_journal.specs.declared.source.PageSource.{Ghosts as SourceGhosts}
-use Rattle.sync_journal.specs.Kinds.{IsStoreUsed, by_kind}
-use Rattle.sync_journal.specs.Blocks.{StoreCommitsInBlocks}
+use Rattle.sync_journal.specs.Commit.{one_journal}
+use Rattle.sync_journal.specs.Journal.{live_homes}
 use Rattle.sync_journal.specs.Source.{HasCauses, Asks}
 use Rattle.sync_journal.specs.Layouts.{HomesStandAs}
 use Rattle.vm_types.specs.declared.file.FileInfo.{FileInfo}
@@ -50,23 +50,18 @@ module _ {D S : Type 0} (g : Ghosts D) (s : SourceGhosts S) where
         → OnOk result (LeavesNow g new.disk (StandsFor (g.sector_count old.disk) files after))
     pub synced : g.keeps_model new.disk → OnOk result ((k : ℕ) → g.unsynced new.disk k → ⊥)
     pub ready : OnOk result (IsReadyStore g new)
-    -- every image of a stop at any moment of the call stands for the files before or after, of layout 3 even one that spoils whole blocks of 4,096
-    -- bytes.
+    -- every image of a stop at any moment of the call stands for the files before or after.
     pub any_moment : g.keeps_model new.disk → s.keeps_model given'
         → (files : ℕ → Option FileInfo) (before after : ℕ → ℕ → List ℕ) → LeavesNow g old.disk (StandsFor (g.sector_count old.disk) files before)
         → Changes files list (s.pages given) before after
         → LeavesOnly g old.disk new.disk (StandsForEither (g.sector_count old.disk) files before after)
-    pub blocks : g.keeps_model new.disk → s.keeps_model given'
-        → (files : ℕ → Option FileInfo) (before after : ℕ → ℕ → List ℕ) → LeavesNow g old.disk (StandsFor (g.sector_count old.disk) files before)
-        → Changes files list (s.pages given) before after
-        → StoreCommitsInBlocks g old.journal (StandsForEither (g.sector_count old.disk) files before after) old.disk new.disk
     -- What stands for the homes, then and meanwhile: the pages, with zeros past their files' ends, and for every other home what stood for it.
     pub homes : g.keeps_model new.disk → s.keeps_model given'
         → OnOk result (LeavesNow g new.disk (PutsHomes (g.sector_count old.disk) old.directory list (s.pages given) (g.content old.disk)))
     pub homes_moment : g.keeps_model new.disk → s.keeps_model given'
         → LeavesOnly g old.disk new.disk (PutsHomesOrNone (g.sector_count old.disk) old.directory list (s.pages given) (g.content old.disk))
     -- After a source's fault they stand for the files before, as at every moment of the call, and the store is ready.
-    pub source_homes : g.keeps_model new.disk → IsErrOf result Source → LeavesNow g new.disk (HomesStandAs by_kind (g.sector_count old.disk) (g.content old.disk))
+    pub source_homes : g.keeps_model new.disk → IsErrOf result Source → LeavesNow g new.disk (HomesStandAs one_journal (g.sector_count old.disk) (g.content old.disk))
     pub source : g.keeps_model new.disk → IsErrOf result Source
         → (files : ℕ → Option FileInfo) (before : ℕ → ℕ → List ℕ) → LeavesNow g old.disk (StandsFor (g.sector_count old.disk) files before)
         → LeavesOnly g old.disk new.disk (StandsFor (g.sector_count old.disk) files before)
@@ -81,8 +76,8 @@ module _ {D S : Type 0} (g : Ghosts D) (s : SourceGhosts S) where
     -- The device is asked for the gate, the journals, and the homes of the commit before alone, and for no sector more often than it takes; no other
     -- is written.
     pub asks : Asks s given given'
-    pub asks_device : AsksOnly g (IsStoreUsed old.journal) old.disk new.disk
-    pub once : by_kind.AsksOnce g old.journal (homes_of_pages old.directory list) old.disk new.disk
-    pub touches : g.keeps_model new.disk → Touches g (by_kind.IsCommitted old.journal) old.disk new.disk
+    pub asks_device : AsksOnly g (IsCommitted (live_homes old.journal)) old.disk new.disk
+    pub once : one_journal.AsksOnce g (live_homes old.journal) (homes_of_pages old.directory list) old.disk new.disk
+    pub touches : g.keeps_model new.disk → Touches g (IsCommitted (live_homes old.journal)) old.disk new.disk
     -- A fault is told exactly where the one that it names failed.
     pub causes : HasCauses (g.failures old.disk) (g.failures new.disk) (s.failures given) (s.failures given') result

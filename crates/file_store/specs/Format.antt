@@ -1,21 +1,15 @@
 -- What a new store is made of.
-use Rattle.std.specs.Prelude.{ℕ, ◌+◌, ◌*◌, ◌%◌, ◌<◌, ◌≤◌, ◌≡◌, ◌⊎◌, false, List, [], ◌∷◌, take, drop, length, slice_get, Option, Some, None, IsSome}
-use Rattle.sync_journal.specs.declared.store_journal.Journals.{Journals}
-use Rattle.sync_journal.specs.declared.store_journal.Journals.TheVariants.{Single, Paired}
+use Rattle.std.specs.Prelude.{ℕ, ◌+◌, ◌*◌, ◌%◌, ◌<◌, ◌≤◌, ◌≡◌, ◌⊎◌, List, [], ◌∷◌, take, drop, length, slice_get, Option, Some, None, IsSome}
 use Rattle.vm_types.specs.Limits.{file_limit}
 use Rattle.std.specs.Option.{option_map}
 use Rattle.vm_types.specs.declared.file.FileInfo.{FileInfo}
 use Rattle.disk_model.specs.Stop.{Image}
 use Rattle.sync_journal.specs.Gate.{closed_sector}
-use Rattle.sync_journal.specs.Layout.{gate_sector}
-use Rattle.sync_journal.specs.Turns.{turn_gate, start_of}
-use Rattle.sync_journal.specs.Kinds.{kind_of, kind_homes, kind_home, kind_home_count}
+use Rattle.sync_journal.specs.Layout.{gate_sector, first_home_sector, home_count, home_sector}
 use Rattle.disk_model.specs.Sectors.{part_of}
-use Rattle.file_store.specs.declared.version.Version.TheVariants.{Two, Three}
 use Rattle.file_store.specs.declared.directory.Entry.{Entry}
 use Rattle.file_store.specs.declared.sources.FileSource.{FileSource}
-use Rattle.file_store.specs.Layout.{turn_mark, IsMark, pages_of_length, bytes_inside, padded_page}
-use Rattle.file_store.specs.Versions.{version_at, version_of, directory_of, mark_of}
+use Rattle.file_store.specs.Layout.{mark, IsMark, pages_of_length, bytes_inside, padded_page}
 use Rattle.file_store.specs.Directory.{entry_in, entry_bytes, IsZero}
 use Rattle.file_store.specs.Standing.{IsBadLayout, IsBadJournal, file_info, standing_page}
 
@@ -31,56 +25,40 @@ IsFrom n k = n ≤ k
 abbrev pub IsMarkSector : ℕ → Type 0
 IsMarkSector k = k ≡ 0
 
--- sector 1, where the kind of layout 3 stands
+-- sector 1, where the directory stands, and of layouts 3 and 4 the kind
 abbrev pub IsKindSector : ℕ → Type 0
 IsKindSector k = k ≡ 1
 
--- directory and gate, and of layout 3 also the first sector of the first map
-abbrev pub IsTableSector : Journals → ℕ → Type 0
-IsTableSector Single k = (k ≡ directory_of Two) ⊎ (k ≡ gate_sector)
-IsTableSector Paired k = (k ≡ directory_of Three) ⊎ ((k ≡ turn_gate) ⊎ (k ≡ start_of false))
-
--- and the kind
-abbrev pub IsLayoutSector : Journals → ℕ → Type 0
-IsLayoutSector kind k = IsKindSector k ⊎ IsTableSector kind k
+-- directory and gate
+abbrev pub IsLayoutSector : ℕ → Type 0
+IsLayoutSector k = (k ≡ 1) ⊎ (k ≡ gate_sector)
 
 -- a sector of the home pages from first on, and before end
-abbrev pub IsHomesBetween : Journals → ℕ → ℕ → ℕ → Type 0
-IsHomesBetween kind first end k = (kind_home kind first ≤ k) × (k < kind_home kind end)
+abbrev pub IsHomesBetween : ℕ → ℕ → ℕ → Type 0
+IsHomesBetween first end k = (home_sector first ≤ k) × (k < home_sector end)
 
 -- all of a new store of so many pages but the mark
-abbrev pub IsUnmarkedSector : Journals → ℕ → ℕ → Type 0
-IsUnmarkedSector kind pages k = IsLayoutSector kind k ⊎ IsHomesBetween kind 0 pages k
+abbrev pub IsUnmarkedSector : ℕ → ℕ → Type 0
+IsUnmarkedSector pages k = IsLayoutSector k ⊎ IsHomesBetween 0 pages k
 
 -- and all of it
-abbrev pub IsStoreSector : Journals → ℕ → ℕ → Type 0
-IsStoreSector kind pages k = IsMarkSector k ⊎ IsUnmarkedSector kind pages k
+abbrev pub IsStoreSector : ℕ → ℕ → Type 0
+IsStoreSector pages k = IsMarkSector k ⊎ IsUnmarkedSector pages k
 
--- Nothing stands in a journal: a gate of zeros, and of layout 3, whose gate always names a journal, also the first sector of the first map.
-abbrev pub IsEmptyJournal : Journals → Image → Type 0
-IsEmptyJournal Single image = image gate_sector ≡ closed_sector
-IsEmptyJournal Paired image = (image turn_gate ≡ closed_sector) × (image (start_of false) ≡ closed_sector)
-
--- Directory and an empty journal.
-pub record HasTables (kind : Journals) (sector : List ℕ) (image : Image) : Type 0 where
-  pub directory : image (directory_of (version_at kind)) ≡ sector
-  pub journal : IsEmptyJournal kind image
-
--- Kind, directory and an empty journal.
-pub record HasHead (kind : Journals) (sector : List ℕ) (image : Image) : Type 0 where
-  pub layout_of : kind_of image ≡ kind
-  pub directory : image (directory_of (version_at kind)) ≡ sector
-  pub journal : IsEmptyJournal kind image
+-- Directory and a gate of zeros.
+pub record HasHead (sector : List ℕ) (image : Image) : Type 0 where
+  pub directory : image 1 ≡ sector
+  pub gate : image gate_sector ≡ closed_sector
 
 -- home page h holds this page
-abbrev pub HoldsPage : Journals → ℕ → List ℕ → Image → Type 0
-HoldsPage kind h page image = (i : ℕ) → i < 8 → image (kind_home kind h + i) ≡ part_of page i
+abbrev pub HoldsPage : ℕ → List ℕ → Image → Type 0
+HoldsPage h page image = (i : ℕ) → i < 8 → image (home_sector h + i) ≡ part_of page i
 
 -- Home page h holds a page of which so many bytes lie inside its file, and zeros past them: the given page, if one is given.
-pub record HoldsCut (kind : Journals) (h inside : ℕ) (given : Option (List ℕ)) (image : Image) : Type 0 where
+pub record HoldsCut (h inside : ℕ) (given : Option (List ℕ)) (image : Image) : Type 0 where
   pub page : List ℕ
   pub zeros : padded_page inside page ≡ page
-  pub holds : HoldsPage kind h page image
+  pub holds : HoldsPage h page image
   pub is : (told : List ℕ) → given ≡ Some told → page ≡ told
 
 module _ {R : Type 0} where
@@ -97,10 +75,10 @@ module _ {R : Type 0} where
   total_pages (source ∷ sources) = pages_of_length source.length + total_pages sources
 
   -- No store on so many sectors holds these files.
-  pub data IsTooLarge (kind : Journals) (sectors : ℕ) (sources : List (FileSource R)) : Type 0 where
-    TooManyFiles : file_limit < length sources → IsTooLarge kind sectors sources
-    TooFewSectors : sectors < kind_homes kind → IsTooLarge kind sectors sources
-    TooManyPages : kind_home_count kind sectors < total_pages sources → IsTooLarge kind sectors sources
+  pub data IsTooLarge (sectors : ℕ) (sources : List (FileSource R)) : Type 0 where
+    TooManyFiles : file_limit < length sources → IsTooLarge sectors sources
+    TooFewSectors : sectors < first_home_sector → IsTooLarge sectors sources
+    TooManyPages : home_count sectors < total_pages sources → IsTooLarge sectors sources
 
   -- the bytes that a source tells: none, and so zeros, where there is no reader
   abbrev pub told_by : (R → Option (List ℕ)) → Option R → Option (List ℕ)
@@ -140,47 +118,36 @@ module _ {R : Type 0} where
 
   -- The homes from first on hold the first n pages of the source: the pages that it tells, where it does, and zeros past
   -- its end.
-  abbrev pub HoldsSourcePages : Journals → (R → Option (List ℕ)) → FileSource R → ℕ → ℕ → Image → Type 0
-  HoldsSourcePages kind remaining source first n image = (k : ℕ) → k < n → HoldsCut kind (first + k) (bytes_inside source.length k) (page_given remaining source k) image
+  abbrev pub HoldsSourcePages : (R → Option (List ℕ)) → FileSource R → ℕ → ℕ → Image → Type 0
+  HoldsSourcePages remaining source first n image = (k : ℕ) → k < n → HoldsCut (first + k) (bytes_inside source.length k) (page_given remaining source k) image
 
   -- The homes hold the first n of the sources' files.
-  abbrev pub HoldsFiles : Journals → (R → Option (List ℕ)) → List (FileSource R) → ℕ → Image → Type 0
-  HoldsFiles kind remaining sources n image = (f : ℕ) (source : FileSource R) → f < n → slice_get sources f ≡ Some source
-      → HoldsSourcePages kind remaining source (first_home sources f) (pages_of_length source.length) image
+  abbrev pub HoldsFiles : (R → Option (List ℕ)) → List (FileSource R) → ℕ → Image → Type 0
+  HoldsFiles remaining sources n image = (f : ℕ) (source : FileSource R) → f < n → slice_get sources f ≡ Some source
+      → HoldsSourcePages remaining source (first_home sources f) (pages_of_length source.length) image
 
   -- The image has all of the sources' store but the mark.
-  pub record IsUnmarkedStoreOf (kind : Journals) (remaining : R → Option (List ℕ)) (sources : List (FileSource R)) (image : Image) : Type 0 where
-    pub layout_of : kind_of image ≡ kind
-    pub directory : IsDirectoryOf sources (image (directory_of (version_at kind)))
-    pub gate : IsEmptyJournal kind image
-    pub files : HoldsFiles kind remaining sources (length sources) image
-
-  -- The image has all of the sources' store of layout 3 but kind and mark.
-  pub record IsKindlessStoreOf (remaining : R → Option (List ℕ)) (sources : List (FileSource R)) (image : Image) : Type 0 where
-    pub directory : IsDirectoryOf sources (image (directory_of Three))
-    pub gate : IsEmptyJournal Paired image
-    pub files : HoldsFiles Paired remaining sources (length sources) image
+  pub record IsUnmarkedStoreOf (remaining : R → Option (List ℕ)) (sources : List (FileSource R)) (image : Image) : Type 0 where
+    pub directory : IsDirectoryOf sources (image 1)
+    pub gate : image gate_sector ≡ closed_sector
+    pub files : HoldsFiles remaining sources (length sources) image
 
   -- The image is a store of the sources' files: with their facts and, where they tell them, their bytes.
-  pub record IsStoreOf (kind : Journals) (remaining : R → Option (List ℕ)) (sectors : ℕ) (sources : List (FileSource R)) (image : Image) : Type 0 where
+  pub record IsStoreOf (remaining : R → Option (List ℕ)) (sectors : ℕ) (sources : List (FileSource R)) (image : Image) : Type 0 where
     pub layout : IsBadLayout sectors image → ⊥
     pub journal : IsBadJournal sectors image → ⊥
     pub facts : (f : ℕ) → file_info image f ≡ files_given sources f
     pub pages : (f k : ℕ) (source : FileSource R) (page : List ℕ) → slice_get sources f ≡ Some source → 4096 * k < source.length
         → page_given remaining source k ≡ Some page → standing_page image f k ≡ page
-    -- byte for byte: the kind, the directory, a gate of zeros, and the homes one after the other in the order of the sources
-    pub made : IsUnmarkedStoreOf kind remaining sources image
-
-  -- An image of layout 3 with its mark is such a store.
-  abbrev pub IsStoreIfPaired : (R → Option (List ℕ)) → ℕ → List (FileSource R) → Image → Type 0
-  IsStoreIfPaired remaining sectors sources image = kind_of image ≡ Paired → image 0 ≡ turn_mark → IsStoreOf Paired remaining sectors sources image
+    -- byte for byte: the directory, a gate of zeros, and the homes one after the other in the order of the sources
+    pub made : IsUnmarkedStoreOf remaining sources image
 
   -- An image that a stop may leave:
-  pub record IsStoreIfMarked (kind : Journals) (remaining : R → Option (List ℕ)) (sectors : ℕ) (sources : List (FileSource R)) (image : Image) : Type 0 where
-    -- with the mark of its kind it is such a store,
-    pub store : image 0 ≡ mark_of (version_of image) → IsStoreOf kind remaining sectors sources image
+  pub record IsStoreIfMarked (remaining : R → Option (List ℕ)) (sectors : ℕ) (sources : List (FileSource R)) (image : Image) : Type 0 where
+    -- with its mark it is such a store,
+    pub store : image 0 ≡ mark → IsStoreOf remaining sectors sources image
     -- and with the mark of any layout, as which a torn one may read, it has all the rest of the store.
-    pub made : IsMark (image 0) → IsUnmarkedStoreOf kind remaining sources image
+    pub made : IsMark (image 0) → IsUnmarkedStoreOf remaining sources image
 
   -- The bytes of page k that a source's reader gave, in a page of zeros:
   pub record IsPageRead (remaining : R → Option (List ℕ)) (old new : FileSource R) (k : ℕ) (given : List ℕ) : Type 0 where

@@ -2,19 +2,18 @@
 use Rattle.std.specs.Prelude.{ℕ, ◌≡◌, ◌⊎◌, ◌+◌, ◌-◌, ◌/◌, List, [], ◌∷◌, ◌++◌, take, length, replicate}
 pub use Rattle.vm_types.specs.Files.{bytes_inside}
 use Rattle.sync_journal.specs.Gate.{repeated}
-use Rattle.sync_journal.specs.Kinds.{turn_kind}
 
--- sector 0 of every store: the bytes `FAMSYNC2`, 64 times
+-- sector 0 of every store of layout 2: the bytes `FAMSYNC2`, 64 times
 unfoldable pub mark : List ℕ
 mark = repeated 64 (70 ∷ 65 ∷ 77 ∷ 83 ∷ 89 ∷ 78 ∷ 67 ∷ 50 ∷ [])
 
 -- sector 0 of every store of layout 1: the bytes `FAMSYNC1`, 64 times
-unfoldable pub old_mark : List ℕ
-old_mark = repeated 64 (70 ∷ 65 ∷ 77 ∷ 83 ∷ 89 ∷ 78 ∷ 67 ∷ 49 ∷ [])
+unfoldable pub mark_1 : List ℕ
+mark_1 = repeated 64 (70 ∷ 65 ∷ 77 ∷ 83 ∷ 89 ∷ 78 ∷ 67 ∷ 49 ∷ [])
 
 -- sectors 0 and 1 of every store of layout 3: the bytes `FAMSYNC3`, 64 times
-abbrev pub turn_mark : List ℕ
-turn_mark = turn_kind
+unfoldable pub mark_3 : List ℕ
+mark_3 = repeated 64 (70 ∷ 65 ∷ 77 ∷ 83 ∷ 89 ∷ 78 ∷ 67 ∷ 51 ∷ [])
 
 -- sector 0 of every store of layout 4, whose pages stay in a pool: the bytes `FAMSYNC4`, 64 times
 unfoldable pub pool_mark : List ℕ
@@ -22,7 +21,7 @@ pool_mark = repeated 64 (70 ∷ 65 ∷ 77 ∷ 83 ∷ 89 ∷ 78 ∷ 67 ∷ 52 ∷
 
 -- the mark of any layout
 abbrev pub IsMark : List ℕ → Type 0
-IsMark sector = (sector ≡ mark) ⊎ ((sector ≡ old_mark) ⊎ ((sector ≡ turn_mark) ⊎ (sector ≡ pool_mark)))
+IsMark sector = (sector ≡ mark) ⊎ ((sector ≡ mark_1) ⊎ ((sector ≡ mark_3) ⊎ (sector ≡ pool_mark)))
 
 -- how many pages of 4,096 bytes a file of so many bytes has, the last one in part perhaps
 abbrev pub pages_of_length : ℕ → ℕ

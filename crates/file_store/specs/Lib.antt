@@ -8,7 +8,6 @@ pub mod Format
 pub mod Making
 pub mod Standing
 pub mod Store
-pub mod Resume
 pub mod Commit
 pub mod Stops
 pub mod Blocks

@@ -1,13 +1,10 @@
 -- What a part of making a store does to the device of the new store.
 use Rattle.std.specs.Prelude.{ℕ, ◌<◌, ◌≤◌, ◌≡◌, ◌⊎◌, Result, OnOk, OnErr, IsErr, IsErrOf}
-use Rattle.disk_model.specs.Stop.{Image, NamesOnce}
+use Rattle.disk_model.specs.Stop.{NamesOnce}
 use Rattle.disk_model.specs.Moments.{Touches, AsksOnly}
 use Rattle.disk_model.specs.declared.sector_disk.SectorDisk.{Ghosts}
-use Rattle.sync_journal.specs.declared.store_journal.Journals.{Journals}
-use Rattle.sync_journal.specs.declared.store_journal.Journals.TheVariants.{Paired}
 use Rattle.file_store.specs.declared.faults.FormatFault.{FormatFault}
 use Rattle.file_store.specs.declared.faults.FormatFault.TheVariants.{Source, Device}
-use Rattle.file_store.specs.Blocks.{KindBehind, KindLast}
 use Rattle.file_store.specs.Format.{IsMarkSector}
 
 -- Calls were made that asked for sectors of W alone, and wrote to no other.
@@ -47,13 +44,6 @@ module _ {D : Type 0} (g : Ghosts D) where
       pub open writes use *
       -- where it returns Ok nothing is unsynced.
       pub synced : g.keeps_model new → OnOk result ((k : ℕ) → g.unsynced new k → ⊥)
-
-    -- Of layout 3 the kind is written last: sectors of W are written and synced before it, and hold then what Q says.
-    pub record WritesKindLast (kind : Journals) (W : ℕ → Type 0) (Q : Image → Type 0) (old new : D) (result : Result T E) : Type 0 where
-      -- so far, or not so far yet,
-      pub epochs : kind ≡ Paired → KindLast g W Q old new
-      -- and after Ok so far.
-      pub kind_behind : kind ≡ Paired → OnOk result (KindBehind g W Q old new)
 
   module _ {T : Type 0} where
     -- Homes in sectors of W are filled from readers:

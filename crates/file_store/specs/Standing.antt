@@ -1,26 +1,25 @@
 -- The files that an image of a store stands for. The format is our own.
 use Rattle.std.specs.Prelude.{ℕ, ◌+◌, ◌*◌, ◌<◌, ◌≡◌, ◌≢◌, ◌⊎◌, List, [], take, Option, Some, None}
-use Rattle.sync_journal.specs.declared.store_journal.Journals.{Journals}
 use Rattle.vm_types.specs.Limits.{file_limit, file_page_limit}
 use Rattle.std.specs.Option.{option_map}
 use Rattle.vm_types.specs.declared.file.FileInfo.{FileInfo}
 use Rattle.disk_model.specs.Stop.{Image}
-use Rattle.sync_journal.specs.Layout.{sizes_before}
-use Rattle.sync_journal.specs.Standing.{standing_in, IsBadJournalIn}
-use Rattle.sync_journal.specs.Kinds.{by_kind}
+use Rattle.sync_journal.specs.OldLayouts.{old_standing, IsBadOld}
+use Rattle.sync_journal.specs.Standing.{standing_single, IsAskedIn, IsBadSingle}
 use Rattle.disk_model.specs.Sectors.{joined}
 use Rattle.file_store.specs.declared.directory.Entry.{Entry}
 use Rattle.file_store.specs.Layout.{pages_of_length, bytes_inside, padded_page}
-use Rattle.file_store.specs.Versions.{version_before, version_of, homes_of, home_pages_of, directory_of, mark_of}
-use Rattle.file_store.specs.declared.version.Version.{Version}
+use Rattle.file_store.specs.Versions.{homes_of, home_pages_of, directory_of, mark_of}
+use Rattle.sync_journal.specs.declared.version.Version.{Version}
+use Rattle.sync_journal.specs.declared.version.Version.TheVariants.{Two}
 use Rattle.file_store.specs.Directory.{entry_in, IsBadDirectory}
 
--- what stands for the home pages, and that the journal that the gate names is bad: of an image of whichever layout
+-- what stands for the home pages, and that an open gate stands before a bad map
 abbrev pub standing : Image → ℕ → ℕ → List ℕ
-standing image h i = by_kind.standing image h i
+standing image h i = standing_single image h i
 
 abbrev pub IsBadJournal : ℕ → Image → Type 0
-IsBadJournal sectors image = by_kind.IsBad sectors image
+IsBadJournal sectors image = IsBadSingle sectors image
 
 -- An image without the layout of a store of this version: the device is too small, the mark is missing, or the directory is bad.
 pub data IsBadLayoutIn (version : Version) (sectors : ℕ) (image : Image) : Type 0 where
@@ -28,27 +27,27 @@ pub data IsBadLayoutIn (version : Version) (sectors : ℕ) (image : Image) : Typ
   Unmarked : image 0 ≢ mark_of version → IsBadLayoutIn version sectors image
   BadDirectory : IsBadDirectory (home_pages_of version sectors) (image (directory_of version)) → IsBadLayoutIn version sectors image
 
--- mark, kind and directory
+-- mark and directory
 abbrev pub IsHeadIn : Version → ℕ → Type 0
-IsHeadIn version k = (k < 2) ⊎ (k ≡ directory_of version)
+IsHeadIn version k = (k ≡ 0) ⊎ (k ≡ directory_of version)
 
--- what an opening of this image asks for: the mark, the kind, the directory, and what a recovery asks for
+-- what an opening of this image asks for: the mark, the directory, and what a recovery asks for
 abbrev pub IsAskedToOpen : Image → ℕ → Type 0
-IsAskedToOpen image k = IsHeadIn (version_of image) k ⊎ by_kind.IsAsked image k
+IsAskedToOpen image k = IsHeadIn Two k ⊎ IsAskedIn image k
 
--- the directory's entry of file f, of an image of this layout, and of one of the layout that its kind says
+-- the directory's entry of file f, of an image of this layout, and of one of layout 2
 abbrev pub listed_entry : Version → Image → ℕ → Option Entry
 listed_entry version image f = entry_in (image (directory_of version)) f
 
 abbrev pub directory_entry : Image → ℕ → Option Entry
-directory_entry image f = listed_entry (version_of image) image f
+directory_entry image f = listed_entry Two image f
 
 -- what the directory says of file f
 abbrev pub info_at : Version → Image → ℕ → Option FileInfo
 info_at version image f = option_map (λ e. e.info) (listed_entry version image f)
 
 abbrev pub file_info : Image → ℕ → Option FileInfo
-file_info image f = info_at (version_of image) image f
+file_info image f = info_at Two image f
 
 -- page k of a file with this entry, where this stands for the homes: the file's bytes, and zeros past its end
 abbrev pub page_standing_in : (ℕ → ℕ → List ℕ) → ℕ → Option Entry → List ℕ
@@ -63,7 +62,7 @@ abbrev pub standing_page_at : Version → (ℕ → ℕ → List ℕ) → Image �
 standing_page_at version stands image f k = page_standing_in stands k (listed_entry version image f)
 
 abbrev pub standing_page : Image → ℕ → ℕ → List ℕ
-standing_page image f k = standing_page_at (version_of image) (standing image) image f k
+standing_page image f k = standing_page_at Two (standing image) image f k
 
 -- page k begins inside file f
 abbrev pub IsPageOf : (ℕ → Option FileInfo) → ℕ → ℕ → Type 0
@@ -81,21 +80,15 @@ pub record StandsForIn (version : Version) (BadJournal : Type 0) (stands : ℕ �
   pub facts : (f : ℕ) → info_at version image f ≡ files f
   pub same : (f k : ℕ) → IsPageOf files f k → standing_page_at version stands image f k ≡ pages f k
 
--- The same of stores of layouts 2 and 3, and of those from which an upgrade makes one of this kind.
+-- The same of stores of layout 2, and of those of any of these layouts, from which an upgrade makes one of a later layout.
 abbrev pub IsBadLayout : ℕ → Image → Type 0
-IsBadLayout sectors image = IsBadLayoutIn (version_of image) sectors image
-
-abbrev pub IsBadOldLayout : Journals → ℕ → Image → Type 0
-IsBadOldLayout kind sectors image = IsBadLayoutIn (version_before kind) sectors image
-
-abbrev pub IsBadOldJournal : Journals → ℕ → Image → Type 0
-IsBadOldJournal kind sectors image = IsBadJournalIn (sizes_before kind) sectors image
+IsBadLayout sectors image = IsBadLayoutIn Two sectors image
 
 abbrev pub StandsFor : ℕ → (ℕ → Option FileInfo) → (ℕ → ℕ → List ℕ) → Image → Type 0
-StandsFor sectors files pages image = StandsForIn (version_of image) (IsBadJournal sectors image) (standing image) sectors files pages image
+StandsFor sectors files pages image = StandsForIn Two (IsBadJournal sectors image) (standing image) sectors files pages image
 
-abbrev pub OldStandsFor : Journals → ℕ → (ℕ → Option FileInfo) → (ℕ → ℕ → List ℕ) → Image → Type 0
-OldStandsFor kind sectors files pages image = StandsForIn (version_before kind) (IsBadOldJournal kind sectors image) (standing_in (sizes_before kind) image) sectors files pages image
+abbrev pub OldStandsFor : Version → ℕ → (ℕ → Option FileInfo) → (ℕ → ℕ → List ℕ) → Image → Type 0
+OldStandsFor version sectors files pages image = StandsForIn version (IsBadOld version sectors image) (old_standing version image) sectors files pages image
 
 -- the bytes of a file of these pages
 abbrev pub bytes_of_pages : (ℕ → List ℕ) → FileInfo → List ℕ

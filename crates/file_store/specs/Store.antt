@@ -3,11 +3,11 @@ use Rattle.std.specs.Prelude.{ℕ, ◌+◌, ◌*◌, ◌^◌, ◌<◌, ◌≤◌
 use Rattle.std.specs.Option.{option_map}
 use Rattle.vm_types.specs.declared.file.FileInfo.{FileInfo}
 use Rattle.disk_model.specs.declared.sector_disk.SectorDisk.{Ghosts}
-use Rattle.sync_journal.specs.Layout.{IsPageSector}
-use Rattle.sync_journal.specs.Kinds.{kind_homes, kind_home_count, journal_kind, store_live, IsStoreRest, by_kind}
+use Rattle.sync_journal.specs.Layout.{first_home_sector, home_count, IsPageSector}
+use Rattle.sync_journal.specs.Commit.{IsAtRest, one_journal}
+use Rattle.sync_journal.specs.Journal.{live_homes}
 use Rattle.sync_journal.specs.Map.{AreHomes}
 use Rattle.sync_journal.specs.Layouts.{HomesStandAs}
-use Rattle.sync_journal.specs.declared.store_journal.StoreJournal.{StoreJournal}
 use Rattle.file_store.specs.declared.directory.Entry.{Entry}
 use Rattle.file_store.specs.declared.directory.Directory.{Directory}
 use Rattle.file_store.specs.declared.store.FileStore.{FileStore}
@@ -32,14 +32,14 @@ module _ {D : Type 0} (g : Ghosts D) where
   -- what the store's device holds, as long as it keeps its model: the directory is the store's, and the journal open is
   -- the one that the store knows of, if any
   pub record IsStoreAtRest (store : FileStore D) : Type 0 where
-    pub journal : IsStoreRest g store.journal store.disk
+    pub journal : IsAtRest g (live_homes store.journal) store.disk
     pub directory : (f : ℕ) → entry_of store.directory f ≡ directory_entry (g.content store.disk) f
 
   -- The store may be read and committed to.
   pub record IsReadyStore (store : FileStore D) : Type 0 where
-    pub room : kind_homes (journal_kind store.journal) ≤ g.sector_count store.disk
-    pub sound : IsSoundDirectory (kind_home_count (journal_kind store.journal) (g.sector_count store.disk)) (entry_of store.directory)
-    pub live : AreHomes (kind_home_count (journal_kind store.journal) (g.sector_count store.disk)) (store_live store.journal)
+    pub room : first_home_sector ≤ g.sector_count store.disk
+    pub sound : IsSoundDirectory (home_count (g.sector_count store.disk)) (entry_of store.directory)
+    pub live : AreHomes (home_count (g.sector_count store.disk)) (live_homes store.journal)
     pub at_rest : g.keeps_model store.disk → IsStoreAtRest store
 
 -- how many bytes of the page at place i of a list lie inside its file, where it has one
@@ -76,21 +76,20 @@ homes_of_pages directory list = map (home_of directory) list
 module _ {D : Type 0} where
   -- one of the eight sectors in which this page stands: in the body where the journal is live with it, otherwise in its home
   abbrev pub IsSectorOf : FileStore D → FilePage → ℕ → Type 0
-  IsSectorOf store p k = IsPageSector (by_kind.stands_at store.journal (home_of store.directory p)) k
+  IsSectorOf store p k = IsPageSector (one_journal.stands_at (live_homes store.journal) (home_of store.directory p)) k
 
 module _ {D : Type 0} (g : Ghosts D) where
-  -- What opening leaves: the device at rest with this directory, and what stood for its homes.
-  pub record IsMounted (old new : D) (directory : Directory) (turns : StoreJournal) : Type 0 where
-    pub room : kind_homes (journal_kind turns) ≤ g.sector_count old
-    pub sound : IsSoundDirectory (kind_home_count (journal_kind turns) (g.sector_count old)) (entry_of directory)
-    pub not_live : store_live turns ≡ []
-    pub rest : g.keeps_model new → IsStoreRest g turns new
+  -- What opening leaves: the device at rest with this directory and a closed gate, and what stood for its homes.
+  pub record IsMounted (old new : D) (directory : Directory) : Type 0 where
+    pub room : first_home_sector ≤ g.sector_count old
+    pub sound : IsSoundDirectory (home_count (g.sector_count old)) (entry_of directory)
+    pub rest : g.keeps_model new → IsAtRest g [] new
     pub same : g.keeps_model new → (f : ℕ) → entry_of directory f ≡ directory_entry (g.content new) f
     pub layout : g.keeps_model new → IsBadLayout (g.sector_count old) (g.content old) → ⊥
     pub journal : g.keeps_model new → IsBadJournal (g.sector_count old) (g.content old) → ⊥
-    pub stands : g.keeps_model new → LeavesNow g new (HomesStandAs by_kind (g.sector_count old) (g.content old))
+    pub stands : g.keeps_model new → LeavesNow g new (HomesStandAs one_journal (g.sector_count old) (g.content old))
     pub synced : g.keeps_model new → (k : ℕ) → g.unsynced new k → ⊥
-    pub emptied : g.keeps_model new → by_kind.IsClosed (g.content new)
+    pub emptied : g.keeps_model new → one_journal.IsClosed (g.content new)
     pub calm : g.failures new ≡ g.failures old
 
   module _ {T E : Type 0} where
@@ -118,8 +117,8 @@ pub record PutsHomes (sectors : ℕ) (directory : Directory) (list : List FilePa
   pub listed : (i j : ℕ) (p : FilePage) → slice_get list i ≡ Some p → j < 8
       → standing new (home_of directory p) j ≡ part_of (padded_page (inside_at directory list i) (given i)) j
   pub others : (h j : ℕ) → ((i : ℕ) (p : FilePage) → slice_get list i ≡ Some p → home_of directory p ≡ h → ⊥) → j < 8 → standing new h j ≡ standing old h j
-  pub outside : (k : ℕ) → by_kind.IsOutside old sectors k → new k ≡ old k
+  pub outside : (k : ℕ) → one_journal.IsOutside old sectors k → new k ≡ old k
 
 -- the homes stand as they did, or as the commit makes them
 abbrev pub PutsHomesOrNone : ℕ → Directory → List FilePage → (ℕ → List ℕ) → Image → Image → Type 0
-PutsHomesOrNone sectors directory list given old new = HomesStandAs by_kind sectors old new ⊎ PutsHomes sectors directory list given old new
+PutsHomesOrNone sectors directory list given old new = HomesStandAs one_journal sectors old new ⊎ PutsHomes sectors directory list given old new

@@ -71,7 +71,7 @@ impl Entry {
     }
 
     /// How many pages the file has.
-    pub(crate) fn pages(&self) -> u32
+    pub fn pages(&self) -> u32
         ensures { result ≡ pages_of_length self.now.info.length }
     {
         self.info.length.div_ceil(PAGE_BYTES as u32)

@@ -13,9 +13,9 @@ pub enum OpenFault {
     /// The device failed.
     #[error("{}", RecoverFault::Device)]
     Device = 1,
-    /// The device has fewer than 8,195 sectors, of layout 3 16,408, sector 0 is not the mark of the layout that sector 1 says, or the
-    /// directory is bad: an entry of no file is not zero, a file's homes do not end within the store, or two files share a
-    /// home. Nothing was written.
+    /// The device has fewer sectors than the layout has before its homes (layout 2 has 8,195), sector 0 is not its mark, or the directory is
+    /// bad: an entry of no file is not zero, a file's homes do not end within the store, or two files share a home. Nothing was
+    /// written.
     #[error("BADLAYOUT")]
     BadLayout = 2,
     /// The journal that the gate names has a map that no commit writes. Nothing was written.
@@ -46,7 +46,7 @@ pub enum UpgradeFault {
     /// The device of the old store failed.
     #[error("OLDDEVICE")]
     OldDevice = 1,
-    /// It has fewer sectors than the layout before has in front of its homes, sector 0 is not the mark of that layout, or the
+    /// It has fewer sectors than the layout that is upgraded has before its homes, sector 0 is not the mark of that layout, or the
     /// directory is bad for it. Nothing was written.
     #[error("OLDLAYOUT")]
     OldLayout = 2,

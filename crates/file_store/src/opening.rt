@@ -1,27 +1,22 @@
 //! A store found on a device.
-ghost use Rattle.std.specs.Prelude.{◌≡◌, ◌<◌, ◌≤◌, ◌⊎◌, ℕ, IfOk, IfErr, MatchResult, OnOk};
+ghost use Rattle.std.specs.Prelude.{◌≡◌, ◌≤◌, ℕ, IfOk, IfErr, MatchResult, OnOk};
 ghost use Rattle.vm_types.specs.Limits.{file_limit};
 ghost use Rattle.disk_model.specs.Stop.{Image, NamesOnce};
-ghost use Rattle.disk_model.specs.Moments.{AsksOnly};
-ghost use Rattle.sync_journal.specs.Layout.{first_home_sector};
-ghost use Rattle.sync_journal.specs.declared.store_journal.Journals.TheVariants.{Single, Paired};
-ghost use Rattle.sync_journal.specs.Kinds.{kind_of, kind_homes};
 ghost use Rattle.file_store.specs.Directory.{IsBadDirectory, AreGood};
-ghost use Rattle.file_store.specs.Opened.{LooksFor, IsHeadOf, IsDirectoryIn, Mounts, OpensFrom, RefusesToOpen};
-ghost use Rattle.file_store.specs.Resume.{IsRefusedFor};
-ghost use Rattle.file_store.specs.Standing.{IsBadLayoutIn, IsBadLayout, IsHeadIn, StandsAs};
+ghost use Rattle.file_store.specs.Opened.{LooksFor, IsDirectoryIn, IsRefusedFor, Mounts, OpensFrom, RefusesToOpen};
+ghost use Rattle.file_store.specs.Standing.{IsBadLayoutIn, IsHeadIn, StandsAs};
 ghost use Rattle.file_store.specs.Stops.{LeftInARow};
-ghost use Rattle.file_store.specs.Versions.{version_at, version_of, homes_of, home_pages_of, directory_of, mark_of};
+ghost use Rattle.file_store.specs.Versions.{homes_of, home_pages_of, directory_of};
 ghost use Rattle.file_store.specs.Store.{IsMounted};
 
 use crate::directory::Directory;
 use crate::faults::OpenFault;
-use crate::layout::{KIND_SECTOR, MARK_SECTOR};
+use crate::layout::MARK_SECTOR;
 use crate::room::HomeRoom;
 use crate::store::FileStore;
-use crate::version::{Version, is_turn_kind};
+use crate::version::{directory_sector, marks};
 use disk_model::{SECTOR_BYTES, SectorDisk};
-use sync_journal::{FIRST_HOME, Journals, StoreJournal, TURN_HOMES};
+use sync_journal::{Journal, Version, recover};
 
 impl<D: SectorDisk> FileStore<D> {
     /// Opens the store on a device, as a stop left it or as whoever had it last in this program: what he wrote may be
@@ -38,9 +33,9 @@ impl<D: SectorDisk> FileStore<D> {
     {
         let mut disk = disk;
         match mount(&mut disk) {
-            Ok((directory, journal)) => Ok(FileStore {
+            Ok(directory) => Ok(FileStore {
                 disk,
-                journal,
+                journal: Journal::closed(),
                 directory,
                 room: HomeRoom::new(),
             }),
@@ -56,71 +51,15 @@ pub fn stops_in_a_row<D: SectorDisk>(_disk: &D)
 {}
 
 /// Reads the directory and carries out an open journal.
-fn mount<D: SectorDisk>(disk: &mut D) -> Result<(Directory, StoreJournal), OpenFault>
+fn mount<D: SectorDisk>(disk: &mut D) -> Result<Directory, OpenFault>
     ensures run { Mounts D.SectorDisk disk.old disk.new }
-    ensures ok { IfOk result (λ found. IsMounted D.SectorDisk disk.old disk.new found.0 found.1) }
+    ensures ok { IfOk result (λ directory. IsMounted D.SectorDisk disk.old disk.new directory) }
     ensures err { IfErr result (λ fault. IsRefusedFor D.SectorDisk disk.old fault disk.new) }
 {
-    let found = read_head(disk)?;
-    let journal = StoreJournal::recover(disk, found.0)?;
-    Ok((found.1, journal))
-}
-
-/// Reads mark, kind and directory of a store of layout 2 or 3. Of layout 2 the kind is the directory.
-pub(crate) fn read_head<D: SectorDisk>(disk: &mut D) -> Result<(Journals, Directory), OpenFault>
-    ensures looks { LooksFor D.SectorDisk (IsBadLayout (D.sector_count disk.old) (D.content disk.old)) disk.old disk.new result }
-    ensures asks { D.keeps_model disk.new → AsksOnly D.SectorDisk (IsHeadIn (version_of (D.content disk.old))) disk.old disk.new }
-    ensures found { IfOk result (λ found. IsHeadOf D.SectorDisk disk.old disk.new found.0 found.1) }
-{
-    let journals = read_mark(disk)?;
-    check_kind(disk, journals)?;
     let mut sector = [0; SECTOR_BYTES];
-    let directory = read_directory(disk, Version::layout_of(journals), &mut sector)?;
-    Ok((journals, directory))
-}
-
-/// Reads which layout a store's mark claims.
-fn read_mark<D: SectorDisk>(disk: &mut D) -> Result<Journals, OpenFault>
-    ensures looks { LooksFor D.SectorDisk (IsBadLayout (D.sector_count disk.old) (D.content disk.old)) disk.old disk.new result }
-    ensures asks { AsksOnly D.SectorDisk (λ k. k < 2) disk.old disk.new }
-    ensures mark { D.keeps_model disk.new → IfOk result (λ journals. D.content disk.old 0 ≡ mark_of (version_at journals)) }
-    ensures room { OnOk result (first_home_sector ≤ D.sector_count disk.old) }
-{
-    // A device that is too small for layout 2 is so for layout 3.
-    if disk.sectors() < FIRST_HOME {
-        return Err(OpenFault::BadLayout);
-    }
-    let mut sector = [0; SECTOR_BYTES];
-    disk.read(MARK_SECTOR, &mut sector)?;
-    if Version::Three.marks(&sector) {
-        return Ok(Journals::Paired);
-    }
-    if Version::Two.marks(&sector) {
-        return Ok(Journals::Single);
-    }
-    Err(OpenFault::BadLayout)
-}
-
-/// Where the mark is that of layout 3, looks whether the device has room for it and sector 1 is its kind too.
-fn check_kind<D: SectorDisk>(disk: &mut D, journals: Journals) -> Result<(), OpenFault>
-    requires few { first_home_sector ≤ D.sector_count disk.old }
-    ensures looks { LooksFor D.SectorDisk ((journals ≡ Paired) × ((D.sector_count disk.old < kind_homes Paired) ⊎ (kind_of (D.content disk.old) ≡ Single))) disk.old disk.new result }
-    ensures asks { AsksOnly D.SectorDisk (λ k. k < 2) disk.old disk.new }
-    ensures room { OnOk result (kind_homes journals ≤ D.sector_count disk.old) }
-    ensures kind { D.keeps_model disk.new → OnOk result (journals ≡ Paired → kind_of (D.content disk.old) ≡ Paired) }
-{
-    let Journals::Paired = journals else {
-        return Ok(());
-    };
-    if disk.sectors() < TURN_HOMES {
-        return Err(OpenFault::BadLayout);
-    }
-    let mut sector = [0; SECTOR_BYTES];
-    disk.read(KIND_SECTOR, &mut sector)?;
-    if !is_turn_kind(&sector) {
-        return Err(OpenFault::BadLayout);
-    }
-    Ok(())
+    let directory = read_layout(disk, Version::Two, &mut sector)?;
+    recover(disk)?;
+    Ok(directory)
 }
 
 /// Reads the directory of a store of this layout. Its bytes are then in `sector`.
@@ -135,7 +74,7 @@ fn read_directory<D: SectorDisk>(
     ensures found { IfOk result (λ directory. IsDirectoryIn D.SectorDisk version disk.old disk.new sector.new directory) }
     ensures good { D.keeps_model disk.new → OnOk result (AreGood (home_pages_of version (D.sector_count disk.old)) (D.content disk.old (directory_of version)) file_limit) }
 {
-    disk.read(version.directory(), sector)?;
+    disk.read(directory_sector(version), sector)?;
     let directory = Directory::from_sector(sector, version.home_count(disk.sectors()))?;
     Ok(directory)
 }
@@ -156,7 +95,7 @@ pub(crate) fn read_layout<D: SectorDisk>(
         return Err(OpenFault::BadLayout);
     }
     disk.read(MARK_SECTOR, sector)?;
-    if !version.marks(sector) {
+    if !marks(version, sector) {
         return Err(OpenFault::BadLayout);
     }
     read_directory(disk, version, sector)

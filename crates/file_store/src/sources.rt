@@ -2,17 +2,16 @@
 ghost use Rattle.std.specs.Prelude.{◌≡◌, ◌-◌, ◌*◌, ◌≤◌, ◌^◌, ◌↔◌, min, length, replicate, OnOk, OnErr, IsErrOf, IsSome, IsTrue};
 ghost use Rattle.vm_types.specs.Limits.{file_limit};
 ghost use Rattle.disk_model.specs.Sectors.{sector_bytes};
-ghost use Rattle.sync_journal.specs.Kinds.{kind_home};
+ghost use Rattle.sync_journal.specs.Layout.{home_sector};
 ghost use Rattle.file_store.specs.Layout.{pages_of_length};
 ghost use Rattle.file_store.specs.Format.{info_of, total_pages, IsPageRead, IsTooLarge, IsDirectoryOf};
 
 use crate::directory::Entry;
 use crate::faults::FormatFault;
 use crate::layout::PAGE_BYTES;
-use crate::version::{first_home, homes};
 use disk_model::SECTOR_BYTES;
 use std::io::Read;
-use sync_journal::{Journals, MAX_HOMES};
+use sync_journal::{FIRST_HOME, MAX_HOMES, home_count};
 use vm_types::{FILES, FileInfo};
 
 /// A file of a new store: its length in bytes, whether it may only be read, and the reader whose first `length` bytes
@@ -62,21 +61,19 @@ impl<R: Read> FileSource<R> {
 }
 
 /// Whether these files are too many or too large for a store of so many sectors.
-pub(crate) fn is_too_large<R>(journals: Journals, sources: &[FileSource<R>], sectors: u64) -> bool
-    ensures { IsTrue result ↔ IsTooLarge journals sectors sources.now }
+pub(crate) fn is_too_large<R>(sources: &[FileSource<R>], sectors: u64) -> bool
+    ensures { IsTrue result ↔ IsTooLarge sectors sources.now }
 {
-    sources.len() > FILES
-        || sectors < first_home(journals)
-        || pages_of(sources) > homes(journals, sectors)
+    sources.len() > FILES || sectors < FIRST_HOME || pages_of(sources) > home_count(sectors)
 }
 
 /// How many bytes an image of these files has, whose homes end where it ends: `512 * (8195 + 8 H)` for their `H` pages in
-/// all, of layout 3 with 16,408 in place of 8,195, or 2^64 - 1 where that is more.
-pub fn image_bytes<R>(journals: Journals, sources: &[FileSource<R>]) -> u64
-    ensures { result ≡ min (sector_bytes * kind_home journals (total_pages sources.now)) (2 ^ 64 - 1) }
+/// all, or 2^64 - 1 where that is more.
+pub fn image_bytes<R>(sources: &[FileSource<R>]) -> u64
+    ensures { result ≡ min (sector_bytes * home_sector (total_pages sources.now)) (2 ^ 64 - 1) }
 {
     let bytes = PAGE_BYTES.saturating_mul(pages_of(sources));
-    (SECTOR_BYTES as u64 * first_home(journals)).saturating_add(bytes)
+    (SECTOR_BYTES as u64 * FIRST_HOME).saturating_add(bytes)
 }
 
 /// How many pages the files have, or 2^64 - 1 where that is more.

@@ -8,14 +8,14 @@ use crate::directory::Directory;
 use crate::pages::trim;
 use crate::room::HomeRoom;
 use disk_model::{DiskFault, SectorDisk};
-use sync_journal::StoreJournal;
+use sync_journal::Journal;
 use vm_types::{FileInfo, FilePage};
 
 /// Up to 64 files of fixed lengths on a device.
 #[derive(Debug, Drop)]
 pub struct FileStore<D> {
     pub(crate) disk: D,
-    pub(crate) journal: StoreJournal,
+    pub(crate) journal: Journal,
     pub(crate) directory: Directory,
     pub(crate) room: HomeRoom,
 }

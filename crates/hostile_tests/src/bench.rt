@@ -9,7 +9,6 @@ use runner::{Devices, RunEnd, run_on};
 use std::alloc::Global;
 use std::process::Abort;
 use stores::{NewStore, OpenFault, Store, format};
-use sync_journal::Journals;
 
 /// The fault that a device is to have: the store's, or that of swap, whose calls are counted from the start of the machine on.
 #[derive(Clone, Copy)]
@@ -122,8 +121,8 @@ impl Case<'_> {
     }
 
     /// What the homes hold once the store was opened that a run left, with that filling of its unsynced sectors: that is what the
-    /// judge says, with an msync that failed only where the gate's sector is filled with what says that it is done. Two journals, or two maps
-    /// of a pool, are named in turn: the second by what opens a gate, and the first by other bytes, of which the old ones are none.
+    /// judge says, with an msync that failed only where the gate's sector is filled with what says that it is done. The two maps of a pool
+    /// are named in turn: the second by what opens a gate, and the first by other bytes, of which the old ones are none.
     pub(crate) fn standing(
         &self,
         rt: &(impl AllocGlobal + Abort),
@@ -134,8 +133,7 @@ impl Case<'_> {
         let write = told.store.disk.writes();
         let at_gate = self.gates.get(judge.synced) == Some(&write);
         let is_named = match self.store {
-            NewStore::Journals(Journals::Single) => filling == OPEN,
-            _ if judge.synced % 2 == 1 => filling != OPEN && filling != OLD,
+            NewStore::Pool(_) if judge.synced % 2 == 1 => filling != OPEN && filling != OLD,
             _ => filling == OPEN,
         };
         let is_done = at_gate && is_named;

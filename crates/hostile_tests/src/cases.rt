@@ -3,13 +3,10 @@ use crate::bench::Case;
 use machine::Config;
 use std::process::Abort;
 use stores::NewStore;
-use sync_journal::Journals;
 use vm_types::Mode;
 
-/// Stores of one journal, of two in turn, and of a pool with maps of three blocks.
-const SINGLE: NewStore = NewStore::Journals(Journals::Single);
-
-const PAIRED: NewStore = NewStore::Journals(Journals::Paired);
+/// Stores of a journal, and of a pool with maps of three blocks.
+const JOURNAL: NewStore = NewStore::Journal;
 
 const POOL: NewStore = NewStore::Pool(3);
 
@@ -30,7 +27,7 @@ const SMALL: Config = Config {
 pub(crate) const PARTIAL_PAGE: Case<'static> = Case {
     config: CONFIG,
     lengths: &[5000],
-    store: SINGLE,
+    store: JOURNAL,
     gates: &[17],
     trace: b"spawn\nmmap 1 0 12288 rw- shared 0 0\nstore 1 0x11387 1 0xaa\nload 1 0x11388 1\n\
 store 1 0x11388 1 0xbb\nload 1 0x11388 1\nload 1 0x12000 1\nmsync 1 0x10000 12288 sync\nload 1 0x11388 1\n\
@@ -43,49 +40,37 @@ value 0xaa\n",
 pub(crate) const ONE_PAGE: Case<'static> = Case {
     config: CONFIG,
     lengths: &[4096],
-    store: SINGLE,
+    store: JOURNAL,
     gates: &[17, 43],
     trace: b"spawn\nmmap 1 0 4096 rw- shared 0 0\nstore 1 0x10000 1 0x5a\nmsync 1 0x10000 4096 sync\n\
 load 1 0x10000 1\nstore 1 0x10001 1 0x6b\nmsync 1 0x10000 4096 sync\n",
     replies: b"pid 1\naddr 0x10000\nok\nok\nvalue 0x5a\nok\nok\n",
 };
 
-/// Makes a byte of each of two pages durable, one after the other, and then another one of the first, in a store of two journals in turn: the
-/// second msync and the third write the page of the one before home.
-pub(crate) const TWO_PAGES_IN_TURN: Case<'static> = Case {
-    config: CONFIG,
-    lengths: &[8192],
-    store: PAIRED,
-    gates: &[17, 42, 67],
-    trace: b"spawn\nmmap 1 0 0x2000 rw- shared 0 0\nstore 1 0x10000 1 1\nmsync 1 0x10000 0x2000 sync\n\
-store 1 0x11000 1 2\nmsync 1 0x10000 0x2000 sync\nstore 1 0x10001 1 3\nmsync 1 0x10000 0x2000 sync\n",
-    replies: b"pid 1\naddr 0x10000\nok\nok\nok\nok\nok\nok\n",
-};
-
-/// A page that each of two msyncs takes is not written home between them.
-pub(crate) const ONE_PAGE_IN_TURN: Case<'static> = Case {
-    store: PAIRED,
+/// In a pool an msync of a page writes it, the block of the map that counts, and the gate, and no page home.
+pub(crate) const ONE_PAGE_IN_A_POOL: Case<'static> = Case {
+    store: POOL,
     gates: &[17, 34],
     ..ONE_PAGE
 };
 
-/// In a pool an msync of a page writes it, the block of the map that counts, and the gate, and no page home.
-pub(crate) const ONE_PAGE_IN_A_POOL: Case<'static> = Case {
-    store: POOL,
-    ..ONE_PAGE_IN_TURN
-};
-
+/// Makes a byte of each of two pages durable, one after the other, and then another one of the first: the second msync and the third leave the page of the
+/// one before in its slot.
 pub(crate) const TWO_PAGES_IN_A_POOL: Case<'static> = Case {
+    config: CONFIG,
+    lengths: &[8192],
     store: POOL,
     gates: &[17, 34, 51],
-    ..TWO_PAGES_IN_TURN
+    trace: b"spawn\nmmap 1 0 0x2000 rw- shared 0 0\nstore 1 0x10000 1 1\nmsync 1 0x10000 0x2000 sync\n\
+store 1 0x11000 1 2\nmsync 1 0x10000 0x2000 sync\nstore 1 0x10001 1 3\nmsync 1 0x10000 0x2000 sync\n",
+    replies: b"pid 1\naddr 0x10000\nok\nok\nok\nok\nok\nok\n",
 };
 
 /// Maps two files of a page each, and makes a byte of both durable.
 pub(crate) const TWO_FILES: Case<'static> = Case {
     config: CONFIG,
     lengths: &[4096, 4096],
-    store: SINGLE,
+    store: JOURNAL,
     gates: &[25],
     trace: b"spawn\nmmap 1 0 0x1000 rw- shared 0 0\nmmap 1 0 0x1000 rw- shared 1 0\nstore 1 0x10000 1 1\n\
 store 1 0x11000 1 2\nmsync 1 0x10000 0x2000 sync\n",
@@ -96,7 +81,7 @@ store 1 0x11000 1 2\nmsync 1 0x10000 0x2000 sync\n",
 pub(crate) const TWO_FILES_TWICE: Case<'static> = Case {
     config: CONFIG,
     lengths: &[4096, 4096],
-    store: SINGLE,
+    store: JOURNAL,
     gates: &[25, 67],
     trace: b"spawn\nmmap 1 0 0x1000 rw- shared 0 0\nmmap 1 0 0x1000 rw- shared 1 0\nstore 1 0x10000 1 1\n\
 store 1 0x11000 1 2\nmsync 1 0x10000 0x2000 sync\nstore 1 0x10000 1 3\nstore 1 0x11000 1 4\n\
@@ -108,7 +93,7 @@ msync 1 0x10000 0x2000 sync\n",
 pub(crate) const TWO_PROCESSES: Case<'static> = Case {
     config: CONFIG,
     lengths: &[4096],
-    store: SINGLE,
+    store: JOURNAL,
     gates: &[17, 43],
     trace: b"spawn\nspawn\nmmap 1 0 4096 rw- shared 0 0\nmmap 2 0 4096 rw- shared 0 0\nstore 1 0x10000 1 0x0a\n\
 store 2 0x10001 1 0x0b\nmsync 1 0x10000 4096 sync\nstore 2 0x10001 1 0x0c\nmsync 1 0x10000 4096 sync\n",
@@ -119,7 +104,7 @@ store 2 0x10001 1 0x0b\nmsync 1 0x10000 4096 sync\nstore 2 0x10001 1 0x0c\nmsync
 pub(crate) const PAGES_IN_SLOTS: Case<'static> = Case {
     config: SMALL,
     lengths: &[32768],
-    store: SINGLE,
+    store: JOURNAL,
     gates: &[73],
     trace: b"spawn\nmmap 1 0 0x8000 rw- shared 0 0\nstore 1 0x10000 1 1\nstore 1 0x11000 1 2\n\
 store 1 0x12000 1 3\nstore 1 0x13000 1 4\nstore 1 0x14000 1 5\nstore 1 0x15000 1 6\nstore 1 0x16000 1 7\n\
@@ -137,7 +122,7 @@ pub(crate) const PAGE_IN_THE_JOURNAL: Case<'static> = Case {
         mode: Mode::Sv39,
     },
     lengths: &[40960],
-    store: SINGLE,
+    store: JOURNAL,
     gates: &[17, 43],
     trace: b"spawn\nmmap 1 0 0xa000 rw- shared 0 0\nstore 1 0x10000 1 7\nmsync 1 0x10000 0x1000 sync\n\
 load 1 0x11000 1\nload 1 0x12000 1\nload 1 0x13000 1\nload 1 0x14000 1\nload 1 0x15000 1\nload 1 0x16000 1\n\
@@ -151,7 +136,7 @@ value 0x00\nvalue 0x00\nvalue 0x00\nvalue 0x07\nok\nok\n",
 pub(crate) const HALTING: Case<'static> = Case {
     config: CONFIG,
     lengths: &[4096],
-    store: SINGLE,
+    store: JOURNAL,
     gates: &[17],
     trace: b"spawn\nmmap 1 0 4096 rw- shared 0 0\nstore 1 0x10000 1 9\nmsync 1 0x10000 4096 sync\n\
 load 1 0x10000 1\nfaults\n",
@@ -162,7 +147,7 @@ load 1 0x10000 1\nfaults\n",
 pub(crate) const OWN_PAGES: Case<'static> = Case {
     config: SMALL,
     lengths: &[],
-    store: SINGLE,
+    store: JOURNAL,
     gates: &[],
     trace: b"spawn\nmmap 1 0 0x10000 rw- anon\nstore 1 0x10000 1 1\nstore 1 0x11000 1 2\nstore 1 0x12000 1 3\n\
 store 1 0x13000 1 4\nstore 1 0x14000 1 5\nstore 1 0x15000 1 6\nstore 1 0x16000 1 7\nstore 1 0x17000 1 8\n\
@@ -186,7 +171,7 @@ pub(crate) const SHARED_COPY: Case<'static> = Case {
         mode: Mode::Sv39,
     },
     lengths: &[],
-    store: SINGLE,
+    store: JOURNAL,
     gates: &[],
     trace: b"spawn\nmmap 1 0 0x6000 rw- anon\nstore 1 0x10000 1 0x11\nfork 1\nstore 1 0x11000 1 0x21\n\
 store 1 0x12000 1 0x21\nstore 1 0x13000 1 0x21\nstore 1 0x14000 1 0x21\nstore 1 0x15000 1 0x21\n\
@@ -202,7 +187,7 @@ pub(crate) const OBJECT_PAGES: Case<'static> = Case {
         mode: Mode::Sv39,
     },
     lengths: &[],
-    store: SINGLE,
+    store: JOURNAL,
     gates: &[],
     trace: b"spawn\nmmap 1 0 0x6000 rw- common\nstore 1 0x10000 1 0x11\nfork 1\nstore 1 0x11000 1 0x21\n\
 store 1 0x12000 1 0x31\nstore 2 0x13000 1 0x41\nstore 2 0x14000 1 0x51\nstore 2 0x10001 1 0x22\n\
@@ -221,7 +206,7 @@ pub(crate) const MOST_PAGES: Case<'static> = Case {
         mode: Mode::Sv39,
     },
     lengths: &[4194304],
-    store: SINGLE,
+    store: JOURNAL,
     gates: &[8193, 20483, 28685],
     trace: b"",
     replies: b"",

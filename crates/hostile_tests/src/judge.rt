@@ -60,7 +60,7 @@ pub(crate) fn heard(
     stall: &[u8],
 ) -> Judge {
     let most = match case.store {
-        NewStore::Journals(_) => PAGE_LIMIT,
+        NewStore::Journal => PAGE_LIMIT,
         NewStore::Pool(blocks) => 504 * blocks as usize,
     };
     let flat = Flat::new(rt.alloc(), case.config.mode, most, case.lengths).expect(rt, "memory");

@@ -5,7 +5,7 @@
 //! stopped recoveries leave, those are left out in which the filling of one isn't the next of `FILLINGS` after that of the one
 //! before; for the longest trace the first stop takes one filling a write, the next each time. So each test takes seconds.
 use crate::bench::{Armed, Case, expect, tried};
-use crate::cases::{ONE_PAGE_IN_A_POOL, ONE_PAGE_IN_TURN, PARTIAL_PAGE, TWO_FILES, TWO_PROCESSES};
+use crate::cases::{ONE_PAGE_IN_A_POOL, PARTIAL_PAGE, TWO_FILES, TWO_PROCESSES};
 use crate::fillings::{EACH, FILLINGS, OPEN};
 use crate::judge::heard;
 use crate::short_disk::ShortDisk;
@@ -109,12 +109,9 @@ fn stopped_recoveries_of_a_second_msync_change_nothing(rt: HostRuntime) {
     }
 }
 
-/// A recovery of two journals in turn is a commit of no pages, of seventeen writes for one page, and one of a pool writes a block of the map
-/// and the gate. The first stop comes at the gate that names the second journal or map.
+/// A recovery of a pool writes a block of the map and the gate. The first stop comes at the gate that names the second map.
 #[test]
-fn stopped_recoveries_of_journals_in_turn_and_of_a_pool_change_nothing(rt: HostRuntime) {
-    for case in [ONE_PAGE_IN_TURN, ONE_PAGE_IN_A_POOL] {
-        let image = case.image(&rt);
-        stop_at(&rt, &case, &image, 17, &[OPEN]);
-    }
+fn stopped_recoveries_of_a_pool_change_nothing(rt: HostRuntime) {
+    let image = ONE_PAGE_IN_A_POOL.image(&rt);
+    stop_at(&rt, &ONE_PAGE_IN_A_POOL, &image, 17, &[OPEN]);
 }

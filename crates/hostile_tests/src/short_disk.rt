@@ -10,9 +10,7 @@ use pool_journal::POOL_GATE;
 use pool_store::DIRECTORY_PAGES;
 use std::alloc::{AllocError, Global};
 use stores::NewStore;
-use sync_journal::{
-    BODY, FIRST_BODY, FIRST_HOME, Journals, PAGE_LIMIT, SECOND_BODY, SECOND_MAP, TURN_HOMES,
-};
+use sync_journal::{BODY, FIRST_HOME, PAGE_LIMIT};
 
 /// The first sector that any run writes.
 const FIRST_WRITTEN: u64 = 2;
@@ -28,12 +26,11 @@ struct Piece {
     absent: u64,
 }
 
-/// Where the pieces of a store of few homes lie: what lies before a body and so many sectors of the body, of each journal or half of a pool,
-/// and the homes.
+/// Where the pieces of a store of few homes lie: what lies before a body and so many sectors of the body, of the journal or each half of a
+/// pool, and the homes.
 fn pieces_of(store: NewStore, body: u64, homes: u64) -> [Piece; 3] {
     let (first, second, second_body, first_home) = match store {
-        NewStore::Journals(Journals::Single) => (BODY, BODY, BODY, FIRST_HOME),
-        NewStore::Journals(Journals::Paired) => (FIRST_BODY, SECOND_MAP, SECOND_BODY, TURN_HOMES),
+        NewStore::Journal => (BODY, BODY, BODY, FIRST_HOME),
         NewStore::Pool(blocks) => {
             let (map, half) = (8 * u64::from(blocks), 4040 * u64::from(blocks));
             (16 + map, 16 + half, 16 + half + map, 16 + 2 * half)
@@ -41,8 +38,8 @@ fn pieces_of(store: NewStore, body: u64, homes: u64) -> [Piece; 3] {
     };
     let first_end = body.saturating_add(first);
     let second_end = match store {
-        NewStore::Journals(Journals::Single) => second,
-        _ => body.saturating_add(second_body),
+        NewStore::Journal => second,
+        NewStore::Pool(_) => body.saturating_add(second_body),
     };
     let second_length = second_end.saturating_sub(second);
     [
@@ -73,7 +70,7 @@ pub(crate) struct ShortDisk {
     pieces: [Piece; 3],
     /// The slots of a body of a pool, none where there is none.
     slots: u64,
-    /// Of a store of two journals or a pool, for each block of eight sectors whether it was written to since the last sync: a stop may spoil all of it.
+    /// Of a pool, for each block of eight sectors whether it was written to since the last sync: a stop may spoil all of it.
     torn: Vec<bool>,
     asked: Asked,
 }
@@ -82,7 +79,7 @@ impl ShortDisk {
     /// A device of zeros with so many homes.
     pub(crate) fn new(alloc: Global, store: NewStore, homes: u64) -> Result<ShortDisk, AllocError> {
         let (pages, slots, homes) = match store {
-            NewStore::Journals(_) => (homes.min(PAGE_LIMIT as u64), 0, homes),
+            NewStore::Journal => (homes.min(PAGE_LIMIT as u64), 0, homes),
             NewStore::Pool(_) => {
                 let slots = homes.saturating_mul(2);
                 (slots, slots, homes.saturating_add(DIRECTORY))
@@ -91,8 +88,8 @@ impl ShortDisk {
         let pieces = pieces_of(store, pages.saturating_mul(8), homes.saturating_mul(8));
         let end = pieces[2].to.saturating_sub(pieces[2].absent);
         let blocks = match store {
-            NewStore::Journals(Journals::Single) => 0,
-            _ => end / 8,
+            NewStore::Journal => 0,
+            NewStore::Pool(_) => end / 8,
         };
         Ok(ShortDisk {
             disk: SimDisk::new(alloc, end)?,
@@ -104,8 +101,8 @@ impl ShortDisk {
         })
     }
 
-    /// The device after a stop, with these bytes in its unsynced sectors, or else those that were last synced. Of a store of two
-    /// journals or a pool these bytes are in each block of 4,096 that has such a sector.
+    /// The device after a stop, with these bytes in its unsynced sectors, or else those that were last synced. Of a pool
+    /// these bytes are in each block of 4,096 that has such a sector.
     pub(crate) fn left(
         &self,
         alloc: Global,

@@ -2,14 +2,13 @@
 //! and no more but at the write of a gate: the msync that failed too, whole, where the gate's sector holds what says that it is done.
 use crate::bench::{Armed, Case, expect};
 use crate::cases::{
-    MOST_PAGES, ONE_PAGE, ONE_PAGE_IN_A_POOL, ONE_PAGE_IN_TURN, PAGE_IN_THE_JOURNAL,
-    PAGES_IN_SLOTS, PARTIAL_PAGE, TWO_FILES_TWICE, TWO_PAGES_IN_A_POOL, TWO_PAGES_IN_TURN,
-    TWO_PROCESSES, most_pages,
+    MOST_PAGES, ONE_PAGE, ONE_PAGE_IN_A_POOL, PAGE_IN_THE_JOURNAL, PAGES_IN_SLOTS, PARTIAL_PAGE,
+    TWO_FILES_TWICE, TWO_PAGES_IN_A_POOL, TWO_PROCESSES, most_pages,
 };
 
 /// Before the second msync of a page first the home of the first one's is written, then the gate is closed, and only then come the
-/// map, the body and the gate. Of two journals in turn the other one is written first, and homes that the new one doesn't take, and
-/// then the gate; of a pool free slots, the other map, and the gate. Several pages are all old or all new.
+/// map, the body and the gate. Of a pool free slots are written first, then the other map, and then the gate. Several pages are all
+/// old or all new.
 #[test]
 fn pages_are_all_old_or_all_new(rt: HostRuntime) {
     for case in [
@@ -17,8 +16,6 @@ fn pages_are_all_old_or_all_new(rt: HostRuntime) {
         PARTIAL_PAGE,
         TWO_PROCESSES,
         PAGE_IN_THE_JOURNAL,
-        ONE_PAGE_IN_TURN,
-        TWO_PAGES_IN_TURN,
         ONE_PAGE_IN_A_POOL,
         TWO_PAGES_IN_A_POOL,
         TWO_FILES_TWICE,

@@ -1,6 +1,6 @@
 -- What lives leave.
-use Rattle.{std.proofs.Common.{ℕ, ◌≡◌, ◌≤◌, inl, inr, ⊎_elim, List, [], ◌∷◌, ◌++◌, length, refl, sym, ◌∙◌, subst, arith}, disk_model.specs.{Moments.{LeavesOnly}, Stop.{Image, MayLeave}, declared.sector_disk.SectorDisk.{Ghosts}}}
-use Rattle.{stores.specs.Images.{StandsAs, StandsFor}, vm_types.specs.{Files.{Files}, Prefix.{Event, acknowledged, after_msyncs, IsPrefixHolding}, State.{State}, View.{Pages}, declared.command.Command.{Command}}}
+use Rattle.{std.proofs.Common.{ℕ, ◌≡◌, ◌≤◌, inl, inr, ⊎_elim, List, [], ◌∷◌, ◌++◌, length, refl, sym, ap, ◌∙◌, subst, arith}, disk_model.specs.{Moments.{LeavesOnly}, Stop.{Image, MayLeave}, declared.sector_disk.SectorDisk.{Ghosts}}}
+use Rattle.{stores.specs.Images.{most_pages, SaysMostOf, StandsAs, StandsFor}, vm_types.specs.{Files.{Files}, Prefix.{Event, acknowledged, after_msyncs, IsPrefixHolding}, State.{State}, View.{Pages}, declared.command.Command.{Command}}}
 use Rattle.{vm_types.specs.declared.reply.Reply.{Reply}, machine.specs.{Boot.{Boots}, Chain.{Chain, Runs, after}, Engine.{StandsForSome}, Machine.{store_of}, declared.machine.Machine.{Machine}}, lives.proofs.Agreeing.{agree_msyncs}}
 use Rattle.lives.{proofs.Agreeing.{same_files, same_pages, stands_for_same}, specs.Lives.{Life, IsLeftBy, StopsEarly, StopsLater, Lives, LeftInLives, HoldsLives, RanSince}}
 
@@ -51,21 +51,42 @@ module _ {D E : Type 0} (g : Ghosts D) (h : Ghosts E) where
       let rest = lives_leave sectors files one.0 lives row.0 last one.2 row.2 in
       (rest.0, (one.0, one.1, rest.1), rest.2)
 
+  -- the last image says the pages of an msync that the first says: of one life,
+  one_most : (sectors : ℕ) (life : Life) (first last : Image) → Lives g h sectors first life last → SaysMostOf sectors first last
+  one_most sectors life first last (inl l) =
+      subst (λ n. SaysMostOf n first last) l.opens.size (subst (λ held. SaysMostOf (g.sector_count l.old) held last) l.opens.held (l.opens.most.each last l.left))
+  one_most sectors life first last (inr l) =
+      let s = l.boots.state in
+      let booted : s.most ≡ most_pages sectors first =
+      subst (λ (n : ℕ). s.most ≡ most_pages n first) l.size
+      (subst (λ (held : Image). s.most ≡ most_pages (g.sector_count l.store) held) l.held (l.boots.most l.kept)) in
+      let left : most_pages sectors last ≡ s.most =
+      subst (λ (n : ℕ). most_pages n last ≡ s.most) (l.same_size ∙ l.size) (l.runs.most l.keeps life.answered last l.left) in
+      left ∙ booted
+
+  -- and of any number of them
+  pub lives_most : (sectors : ℕ) (lives : List Life) (first last : Image) → LeftInLives g h sectors lives first last → SaysMostOf sectors first last
+  lives_most sectors [] first last row = ap (most_pages sectors) row
+  lives_most sectors (life ∷ lives) first last row = lives_most sectors lives row.0 last row.2 ∙ one_most sectors life first row.0 row.1
+
   -- one more
   pub more_lives : (sectors : ℕ) (lives : List Life) (life : Life) (first image last : Image) → LeftInLives g h sectors lives first image
       → Lives g h sectors image life last → LeftInLives g h sectors (lives ++ life ∷ []) first last
   more_lives sectors [] life first image last row lived = (last, subst (λ (i : Image). Lives g h sectors i life last) row lived, refl)
   more_lives sectors (one ∷ lives) life first image last row lived = (row.0, row.1, more_lives sectors lives life row.0 image last row.2 lived)
 
-  pub goes_on : (files : Files) (before : Pages) (lives : List Life) (life : Life) (store new : D) → HoldsLives g h files before lives store
+  pub goes_on : (files : Files) (before : Pages) (lives : List Life) (life : Life) (store new : D) → (holds : HoldsLives g h files before lives store)
       → g.sector_count new ≡ g.sector_count store → Lives g h (g.sector_count store) (g.content store) life (g.content new)
-      → HoldsLives g h files before (lives ++ life ∷ []) new
-  goes_on files before lives life store new holds size lived = record {
-    first = holds.first;
-    stands = subst (λ (n : ℕ). StandsFor n files before holds.first) (sym size) holds.stands;
-    lived = subst (λ (n : ℕ). LeftInLives g h n (lives ++ life ∷ []) holds.first (g.content new)) (sym size)
-        (more_lives (g.sector_count store) lives life holds.first (g.content store) (g.content new) holds.lived lived);
-  }
+      → (more : HoldsLives g h files before (lives ++ life ∷ []) new) × (more.first ≡ holds.first)
+  goes_on files before lives life store new holds size lived = (
+    record {
+      first = holds.first;
+      stands = subst (λ (n : ℕ). StandsFor n files before holds.first) (sym size) holds.stands;
+      lived = subst (λ (n : ℕ). LeftInLives g h n (lives ++ life ∷ []) holds.first (g.content new)) (sym size)
+          (more_lives (g.sector_count store) lives life holds.first (g.content store) (g.content new) holds.lived lived);
+    },
+    refl,
+  )
 
   -- what a device holds
   pub still_stands : (files : Files) (before : Pages) (lives : List Life) (store : D) → HoldsLives g h files before lives store
@@ -74,10 +95,11 @@ module _ {D E : Type 0} (g : Ghosts D) (h : Ghosts E) where
 
   -- a start that a stop ends
   pub early_life : (store new : D) → g.keeps_model new → ((k : ℕ) → g.unsynced store k → ⊥) → LeavesOnly g store new (StandsAs (g.sector_count store) (g.content store))
+      → LeavesOnly g store new (SaysMostOf (g.sector_count store) (g.content store))
       → (image : Image) → g.left_since new (g.moment store) image
       → Lives g h (g.sector_count store) (g.content store) (record { events = []; answered = 0 }) image
-  early_life store new keeps synced stands image left =
-      inl (record { old = store; new = new; opens = record { size = refl; held = refl; synced = synced; stands = stands }; left = left; none = refl })
+  early_life store new keeps synced stands most image left =
+      inl (record { old = store; new = new; opens = record { size = refl; held = refl; synced = synced; stands = stands; most = most }; left = left; none = refl })
 
   -- the machine after all commands
   pub at_end : (old : Machine D E) (s : State) (commands : List Command) (replies : List Reply) (events : List Event) (new : Machine D E) (t : State)
@@ -91,8 +113,9 @@ module _ {D E : Type 0} (g : Ghosts D) (h : Ghosts E) where
       → (store : D) (old new : Machine D E) (commands : List Command) (replies : List Reply) → g.keeps_model (store_of old) → g.keeps_model (store_of new)
       → g.sector_count (store_of old) ≡ g.sector_count store
       → (((k : ℕ) → g.unsynced store k → ⊥) → LeavesOnly g store (store_of old) (StandsAs (g.sector_count store) (g.content store)))
+      → (((k : ℕ) → g.unsynced store k → ⊥) → LeavesOnly g store (store_of old) (SaysMostOf (g.sector_count store) (g.content store)))
       → (boots : Boots g h store old) → Runs g h old new commands replies boots.state → RanSince g h store new commands replies
-  ran counts_now store old new commands replies kept keeps size stands boots runs =
+  ran counts_now store old new commands replies kept keeps size stands most boots runs =
       let later : (k : ℕ) (image : Image)
       → g.left_since (store_of new) (g.moment (store_of (after g h old boots.state commands replies runs.events new runs.last runs.chain k))) image
       → Lives g h (g.sector_count store) (g.content store) (record { events = runs.events; answered = k }) image =
@@ -117,7 +140,7 @@ module _ {D E : Type 0} (g : Ghosts D) (h : Ghosts E) where
         old = old;
         boots = boots;
         runs = runs;
-        early = λ synced. early_life store (store_of old) kept synced (stands synced);
+        early = λ synced. early_life store (store_of old) kept synced (stands synced) (most synced);
         later = later;
         handed_on = later (length commands) (g.content disk)
             (subst (λ (m : Machine D E). g.left_since disk (g.moment (store_of m)) (g.content disk))

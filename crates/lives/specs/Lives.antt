@@ -31,10 +31,11 @@ abbrev pub IsLeftBy : Pages → List Life → Pages → Type 0
 IsLeftBy before [] pages = pages ≡ before
 IsLeftBy before (life ∷ lives) pages = (between : Pages) × IsPrefixHolding before life.events life.answered between × IsLeftBy between lives pages
 
--- The state has these files, and all mappings see these pages of them.
-pub record IsAtFirst (files : Files) (pages : Pages) (s : State) : Type 0 where
+-- The state has these files, all mappings see these pages of them, and an msync takes so many pages.
+pub record IsAtFirst (files : Files) (pages : Pages) (taken : ℕ) (s : State) : Type 0 where
   pub facts : (f : ℕ) → s.files f ≡ files f
   pub seen : (f k : ℕ) → IsPageOf files f k → s.volatile f k ≡ pages f k
+  pub most : s.most ≡ taken
 
 -- two lives with one command each, the second of which was stopped in its own
 abbrev pub stopped_in_second : Event → Event → List Life

@@ -1,19 +1,13 @@
 //! Laws of stores and of their lives. The functions do nothing: each one's contract is the law.
 ghost use Rattle.std.specs.Prelude.{◌≡◌, ◌⊎◌, ◌↔◌, true, false, ℕ, List, [], ◌∷◌, ◌++◌, Option};
 ghost use Rattle.disk_model.specs.Stop.{Image};
-ghost use Rattle.sync_journal.specs.Layout.{sizes_before};
-ghost use Rattle.sync_journal.specs.Standing.{standing_in};
-ghost use Rattle.sync_journal.specs.Kinds.{kind_of};
-ghost use Rattle.sync_journal.specs.declared.store_journal.Journals.{Journals};
-ghost use Rattle.sync_journal.specs.declared.store_journal.Journals.TheVariants.{Single, Paired};
 ghost use Rattle.file_store.specs.Format.{files_given};
-ghost use Rattle.stores.specs.Images.{IsBadLayout, IsBadJournal, StandsFor, is_pool};
-ghost use Rattle.file_store.specs.Standing.{IsBadOldLayout, IsBadOldJournal, IsPageOf, OldStandsFor, info_at, standing_page_at};
-ghost use Rattle.file_store.specs.Versions.{version_before};
-ghost use Rattle.file_store.specs.Upgrade.{IsUpgradeOf, IsUpgradeIfMarked};
+ghost use Rattle.stores.specs.Images.{IsBadLayout, IsBadJournal, StandsFor, SaysMostOf, is_pool, most_pages};
+ghost use Rattle.file_store.specs.Standing.{IsPageOf};
 ghost use Rattle.file_store.specs.declared.sources.FileSource.{FileSource};
 ghost use Rattle.stores.specs.NewStores.{IsNewOrNone, IsNewStore};
 ghost use Rattle.stores.specs.declared.new_stores.NewStore.{NewStore};
+ghost use Rattle.stores.specs.declared.new_stores.NewStore.TheVariants.{Pool};
 ghost use Rattle.vm_types.specs.declared.command.Command.{Command};
 ghost use Rattle.vm_types.specs.declared.reply.Reply.{Reply};
 ghost use Rattle.vm_types.specs.Files.{Files};
@@ -35,7 +29,7 @@ ghost use Rattle.lives.specs.Flat.{causes_in};
 ghost use Rattle.lives.specs.Formatted.{AreSourcesBytes, StandsForSources, IsFormattedStore};
 ghost use Rattle.lives.specs.Hardware.{LivesThrough};
 ghost use Rattle.lives.specs.Lives.{HoldsLives, IsAtFirst, Life, Lives, IsLeftBy, LeftInLives, RanSince, stopped_in_first, stopped_in_second};
-ghost use Rattle.lives.specs.Upgraded.{IsUpgradedStore};
+ghost use Rattle.lives.specs.Upgraded.{HasBadOldLayout, HasBadOldJournal, IsUpgradeBy, IsUpgradeOrNone, IsUpgradedStore, StoodFor, old_info, old_page};
 
 use disk_model::SectorDisk;
 use std::io::Read;
@@ -50,45 +44,53 @@ pub fn new_store<R: Read>(_reader: &R)
         → IsBadLayout sectors image ⊎ StandsForSources R.remaining sectors sources image }
 {}
 
-/// A store that an upgrade made stands for what the one of the layout before stood for, which is something wherever that has a good
+/// A store that an upgrade made stands for what the one of an older layout stood for, which is something wherever that has a good
 /// layout and a good journal. What a stop leaves while it is made is no store, or all of it.
 pub fn upgraded_store()
-    ensures stood { (journals : Journals) (sectors : ℕ) (old : Image) → (IsBadOldLayout journals sectors old → ⊥) → (IsBadOldJournal journals sectors old → ⊥)
-        → OldStandsFor journals sectors (info_at (version_before journals) old) (standing_page_at (version_before journals) (standing_in (sizes_before journals) old) old) old }
-    // A store of one journal, as lives leave it, stands for the same to the upgrade that makes one of two of it.
-    ensures lived { (sectors : ℕ) (files : Files) (pages : Pages) (old : Image) → kind_of old ≡ Single → is_pool old ≡ false → StandsFor sectors files pages old
-        → OldStandsFor Paired sectors files pages old }
-    ensures made { (journals : Journals) (old_sectors sectors : ℕ) (files : Files) (pages : Pages) (old image : Image) → OldStandsFor journals old_sectors files pages old
-        → IsUpgradeOf journals old_sectors sectors old image → StandsFor sectors files pages image }
-    ensures stopped { (journals : Journals) (old_sectors sectors : ℕ) (files : Files) (pages : Pages) (old image : Image) → OldStandsFor journals old_sectors files pages old
-        → IsUpgradeIfMarked journals old_sectors sectors old image → IsBadLayout sectors image ⊎ StandsFor sectors files pages image }
+    ensures stood { (store : NewStore) (sectors : ℕ) (old : Image) → (HasBadOldLayout store sectors old → ⊥) → (HasBadOldJournal store sectors old → ⊥)
+        → StoodFor store sectors (old_info store old) (old_page store old) old }
+    // A store of layout 2, as lives leave it, stands for the same to the upgrade that makes one of layout 4 of it.
+    ensures lived { (blocks sectors : ℕ) (files : Files) (pages : Pages) (old : Image) → is_pool old ≡ false → StandsFor sectors files pages old
+        → StoodFor (Pool blocks) sectors files pages old }
+    ensures made { (store : NewStore) (old_sectors sectors : ℕ) (files : Files) (pages : Pages) (old image : Image) → StoodFor store old_sectors files pages old
+        → IsUpgradeBy store old_sectors sectors old image → StandsFor sectors files pages image }
+    ensures stopped { (store : NewStore) (old_sectors sectors : ℕ) (files : Files) (pages : Pages) (old image : Image) → StoodFor store old_sectors files pages old
+        → IsUpgradeOrNone store old_sectors sectors old image → IsBadLayout sectors image ⊎ StandsFor sectors files pages image }
 {}
 
 /// What any number of lives leave of a store that stood for these files: the files that the first image stood for, with what
-/// a first part of each life's msyncs made durable, each whole, and all that were acknowledged.
+/// a first part of each life's msyncs made durable, each whole, and all that were acknowledged. Whatever it stood for, an msync may take as many pages of
+/// the last image as of the first.
 pub fn lives_in_a_row<D: SectorDisk, E: SectorDisk>(_store: &D, _swap: &E)
-    ensures { (sectors : ℕ) (files : Files) (before : Pages) (lives : List Life) (first last : Image) → StandsFor sectors files before first
+    ensures stands { (sectors : ℕ) (files : Files) (before : Pages) (lives : List Life) (first last : Image) → StandsFor sectors files before first
         → LeftInLives D.SectorDisk E.SectorDisk sectors lives first last → StandsForSome sectors files (IsLeftBy before lives) last }
+    ensures most { (sectors : ℕ) (lives : List Life) (first last : Image) → LeftInLives D.SectorDisk E.SectorDisk sectors lives first last
+        → SaysMostOf sectors first last }
 {}
 
-/// Lives go on: what one more life leaves of a device that holds what lives left is what all of them left.
+/// Lives go on: what one more life leaves of a device that holds what lives left of a store is what all of them left of it.
 pub fn one_more_life<D: SectorDisk, E: SectorDisk>(_store: &D, _swap: &E)
-    ensures { (files : Files) (before : Pages) (lives : List Life) (life : Life) (store new : D) → HoldsLives D.SectorDisk E.SectorDisk files before lives store
+    ensures { (files : Files) (before : Pages) (lives : List Life) (life : Life) (store new : D) → (holds : HoldsLives D.SectorDisk E.SectorDisk files before lives store)
         → D.sector_count new ≡ D.sector_count store → Lives D.SectorDisk E.SectorDisk (D.sector_count store) (D.content store) life (D.content new)
-        → HoldsLives D.SectorDisk E.SectorDisk files before (lives ++ life ∷ []) new }
+        → (goes_on : HoldsLives D.SectorDisk E.SectorDisk files before (lives ++ life ∷ []) new) × (goes_on.first ≡ holds.first) }
 {}
 
-/// What lives leave of a new store begins with the bytes of the sources.
+/// What lives leave of a new store begins with the bytes of the sources, and an msync may take as many pages of it as of the new store.
 pub fn formatted_lives<R: Read, D: SectorDisk, E: SectorDisk>(_reader: &R, _store: &D, _swap: &E)
-    ensures { (sectors : ℕ) (sources : List (FileSource R)) (lives : List Life) (image : Image)
+    ensures stands { (sectors : ℕ) (sources : List (FileSource R)) (lives : List Life) (image : Image)
         → IsFormattedStore R.remaining D.SectorDisk E.SectorDisk sectors sources lives image
         → (before : Pages) × AreSourcesBytes R.remaining sources before × StandsForSome sectors (files_given sources) (IsLeftBy before lives) image }
+    ensures most { (sectors : ℕ) (sources : List (FileSource R)) (lives : List Life) (image : Image)
+        → (formatted : IsFormattedStore R.remaining D.SectorDisk E.SectorDisk sectors sources lives image) → SaysMostOf sectors formatted.first image }
 {}
 
-/// What lives leave of a store that an upgrade made begins with what the store of the layout before stood for.
+/// What lives leave of a store that an upgrade made begins with what the store of an older layout stood for, and an msync may take as many pages of it as of
+/// the one that was made.
 pub fn upgraded_lives<D: SectorDisk, E: SectorDisk>(_store: &D, _swap: &E)
-    ensures { (sectors : ℕ) (files : Files) (before : Pages) (lives : List Life) (image : Image)
+    ensures stands { (sectors : ℕ) (files : Files) (before : Pages) (lives : List Life) (image : Image)
         → IsUpgradedStore D.SectorDisk E.SectorDisk sectors files before lives image → StandsForSome sectors files (IsLeftBy before lives) image }
+    ensures most { (sectors : ℕ) (files : Files) (before : Pages) (lives : List Life) (image : Image)
+        → (upgraded : IsUpgradedStore D.SectorDisk E.SectorDisk sectors files before lives image) → SaysMostOf sectors upgraded.first image }
 {}
 
 /// What lives left of a store has a good layout and a good journal, so that no boot and no opening of it returns `BadLayout` or
@@ -100,11 +102,12 @@ pub fn lives_boot<D: SectorDisk, E: SectorDisk>(_store: &D, _swap: &E)
         → IsBadJournal (D.sector_count store) (D.content store) → ⊥ }
 {}
 
-/// A machine that boots on what lives left shows the files that they left: all mappings see these bytes at first.
+/// A machine that boots on what lives left of a store shows the files that they left: all mappings see these bytes at first. An msync of it takes as many
+/// pages as that store says.
 pub fn boot_after_lives<D: SectorDisk, E: SectorDisk>(_store: &D, _swap: &E)
     ensures { (files : Files) (before : Pages) (lives : List Life) (store : D) (m : Machine D E)
-        → HoldsLives D.SectorDisk E.SectorDisk files before lives store → D.keeps_model (store_of m)
-        → (boots : Boots D.SectorDisk E.SectorDisk store m) → (pages : Pages) × IsLeftBy before lives pages × IsAtFirst files pages boots.state }
+        → (holds : HoldsLives D.SectorDisk E.SectorDisk files before lives store) → D.keeps_model (store_of m) → (boots : Boots D.SectorDisk E.SectorDisk store m)
+        → (pages : Pages) × IsLeftBy before lives pages × IsAtFirst files pages (most_pages (D.sector_count store) holds.first) boots.state }
 {}
 
 /// An image stands for one content: its files, and each page of them.

@@ -3,8 +3,8 @@ use Rattle.vm_types.specs.declared.mode.Levels as Levels
 use Rattle.machine.proofs.Names.{ℕ, ◌+◌, ◌*◌, ◌≡◌, ◌≤◌, ◌⊎◌, inl, inr, ⊎_elim, false, List, Some, None, is_some, [], refl, sym, ap, ◌∙◌, subst, arith, rules, LeavesOnly, Image, MayLeave, Ghosts, started, stays, asks_none, view-none}
 use Rattle.machine.proofs.Names.{StandsFor, StandsAs, file_info, standing_page, Home, PageKey, File, Object, State, IsStart, Core, Picture, picture_of, held, ShowsPages, slots_of}
 use Rattle.machine.specs.{Boot.{HasBadFrames, HasBadSlots, BootAccepts, BootLeaves, BootRefuses}, EngineBoot.{EngineBoots}, StoreBoot.{BootsStore, RefusesStore}, declared.boot.{BootFault.{BootFault}, BootFault.TheVariants.{Frames, Slots, OutOfMemory}}}
-use Rattle.msync.specs.Shows.{HasSyncRoom, RoomSize}
-use Rattle.{machine.specs.declared.{config.Config.{Config}, engine.Engine.{Engine}}, stores.{proofs.Said.{files_said, stands_for_own}, specs.{Store.{always_free_in, disk_of, files_of, kept_of}, declared.store.Store.{Store}}}}
+use Rattle.msync.specs.Shows.{HasSyncRoom, RoomSize, SaysMost}
+use Rattle.{machine.specs.declared.{config.Config.{Config}, engine.Engine.{Engine}}, stores.{proofs.Said.{files_said, stands_for_own}, specs.{Images.{SaysMostOf}, Store.{always_free_in, disk_of, files_of, kept_of}, declared.store.Store.{Store}}}}
 
 -- sizes that pass the tests are fine
 pub fine_frames : (config : Config) → 8 ≤ config.frames → config.frames ≤ 65536 → HasBadFrames config → ⊥
@@ -15,20 +15,20 @@ fine_slots config n slots sectors most same all room bad = ⊎_elim (λ many. om
 
 module _ {D : Type 0} (g : Ghosts D) where
   -- no time passed, and nothing is unsynced
-  pub unmoved : (d : D) → ((c : Image) → g.left_since d (g.moment d) c → MayLeave (g.content d) (g.unsynced d) c)
-      → ((k : ℕ) → g.unsynced d k → ⊥) → (first : Image) → StandsAs (g.sector_count d) first (g.content d)
-      → LeavesOnly g d d (StandsAs (g.sector_count d) first)
-  unmoved d only_now synced first stands =
-      started g d (StandsAs (g.sector_count d) first) only_now
+  unmoved : (d : D) (P : Image → Type 0) → ((c : Image) → g.left_since d (g.moment d) c → MayLeave (g.content d) (g.unsynced d) c)
+      → ((k : ℕ) → g.unsynced d k → ⊥) → P (g.content d) → LeavesOnly g d d P
+  unmoved d P only_now synced here =
+      started g d P only_now
       (λ c may.
       let same : c ≡ g.content d = λ i k. ⊎_elim (λ u. absurd (synced k u)) (λ (e : c k ≡ g.content d k). e) (may.kept k) i in
-      subst (StandsAs (g.sector_count d) first) (sym same) stands)
+      subst P (sym same) here)
 
   -- what a stop leaves of a device that was not asked,
   pub still : (d : D) → (g.keeps_model d → (c : Image) → g.left_since d (g.moment d) c → MayLeave (g.content d) (g.unsynced d) c) → BootLeaves g d d
   still d only_now = record {
-    any_moment = λ keeps synced. unmoved d (only_now keeps) synced (g.content d) (λ files pages stands. stands);
-    in_a_row = λ keeps synced first stands. unmoved d (only_now keeps) synced first stands;
+    any_moment = λ keeps synced. unmoved d (StandsAs (g.sector_count d) (g.content d)) (only_now keeps) synced (λ files pages stands. stands);
+    most_moment = λ keeps synced. unmoved d (SaysMostOf (g.sector_count d) (g.content d)) (only_now keeps) synced refl;
+    in_a_row = λ keeps synced first stands. unmoved d (StandsAs (g.sector_count d) first) (only_now keeps) synced stands;
   }
 
   -- too few frames, or too many
@@ -140,6 +140,7 @@ module _ {M : Type 0} {levels : Levels.Ghosts M} {D E : Type 0} (g : Ghosts D) (
         subst (λ (n : ℕ). StandsFor n (files_of m.core.store) (standing_page (g.sector_count entry) (g.content entry)) c) (sym opened.size)
             (opened.now keeps c may (files_of m.core.store) (standing_page (g.sector_count entry) (g.content entry)) (stands_at_start entry m opened keeps)),
       );
+      most_stands = λ keeps c may. subst (λ (n : ℕ). SaysMost n m.sync_room.most c) (sym opened.size) (opened.most_now keeps c may ∙ sym (sized.most ∙ opened.most keeps));
     };
     fresh = subst (λ (n : ℕ). IsStart m.core n (slots_of m.core.swap).total) (sym fresh.fresh.frames) (subst (λ (n : ℕ). IsStart m.core frames n) (sym fresh.slots_free.total) fresh);
     start = record { live = λ pid. refl; views = λ pid page. refl; same = λ file page. refl; touched = λ file page. refl; objects = λ object page. refl; past = refl; running = refl };

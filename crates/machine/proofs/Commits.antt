@@ -8,6 +8,7 @@ use Rattle.machine.proofs.Names.{Step, Answers, Fails, Stalls, is_success, State
 use Rattle.machine.{proofs.Steps.{outcome_keeps, commit_takes}, specs.{Engine.{stands_in, MayStand, HoldsIn, StandsForSome, EngineShows, EngineMeets}, declared.engine.Engine.{Engine}}}
 use Rattle.spaces.specs.Calls as Calls
 use Rattle.msync.specs.Shows as Syncing
+use Rattle.msync.specs.Shows.{SaysMost}
 use Rattle.stores.specs.Store.{directory_of, disk_of}
 use Rattle.msync.proofs.Committing.{store_same}
 
@@ -113,6 +114,7 @@ module _ {M : Type 0} {levels : Levels.Ghosts M} {D E : Type 0} (g : Ghosts D) (
       → (t : State) × EngineMeets g h old (engine halts) s t x reply
   met halts t step shown capacity taken moments =
       let idle : is_idle s x reply ≡ true → KeepsDevices old.core core = λ e. absurd (never_idle s pid addr len mode reply after commit taken e) in
+      let most_moments = made.most_moments in
       (t, search rules)
 
   -- the commit was made
@@ -128,6 +130,7 @@ module _ {M : Type 0} {levels : Levels.Ghosts M} {D E : Type 0} (g : Ghosts D) (
         past = shows.past ∙ sym all.past;
         most = all.most ∙ shows.most;
         stands = λ k c may. (t.durable, subst (λ (o : Option (List Pages)). stands_in o t.durable t.durable) (sym goes_on) refl, now.stands k c may);
+        most_stands = now.most_stands;
       })
       (λ stall e. absurd (let never : Done ≡ Stalled stall = sym done ∙ e in cc)) (ap is_denial done) (during (ap may_have_taken done) back)
 
@@ -149,6 +152,9 @@ module _ {M : Type 0} {levels : Levels.Ghosts M} {D E : Type 0} (g : Ghosts D) (
             (⊎_elim (λ b. (s.durable, inl refl, b)) (λ a. (after, inr (inl refl), a))
             (holds_now g (disk_of old.core.store) (disk_of core.store) (StandsForEither n s.files s.durable after)
             (λ m i le ml. counts_now (disk_of core.store) m i k le ml) (made.either k back) c may));
+        most_stands = λ k c may.
+            subst (λ (sectors : ℕ). SaysMost sectors s.most c) (sym made.size)
+            (holds_now g (disk_of old.core.store) (disk_of core.store) (SaysMost n s.most) (λ m i le ml. counts_now (disk_of core.store) m i k le ml) (made.most_moments k) c may);
       })
       (λ stall e. absurd (let never : Refused EIO ≡ Stalled stall = sym failed ∙ e in cc)) (ap is_denial failed) (during (ap may_have_taken failed) back)
 
@@ -160,7 +166,7 @@ module _ {M : Type 0} {levels : Levels.Ghosts M} {D E : Type 0} (g : Ghosts D) (
       met false s
       (Stalls SwapDevice run
       (record { otherwise = ap is_success (done_of s (ruling s x) after commit); open_to = ap is_some commit; cause = grew }) stalled refl)
-      (record { pages = now.pages; running = ap is_some run; past = shows.past; most = shows.most; stands = λ k c may. (s.durable, durable, now.stands k c may) })
+      (record { pages = now.pages; running = ap is_some run; past = shows.past; most = shows.most; stands = λ k c may. (s.durable, durable, now.stands k c may); most_stands = now.most_stands })
       (λ stall e. subst (Calls.FallsShort (frame_count core.frames) (slots_of core.swap).total s x) (stall_is stall (sym stalled ∙ e)) tt) (ap is_denial stalled)
       (λ k. weaker g (disk_of old.core.store) (disk_of core.store) (StandsFor n s.files s.durable) (StandsForSome n s.files (HoldsIn s x reply))
       (λ c stands. (s.durable, inl durable, stands)) (only k))

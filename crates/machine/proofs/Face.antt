@@ -1,7 +1,7 @@
 -- What the words on machines say, whatever the mode.
 use Rattle.machine.proofs.Names.{◌+◌, ◌≡◌, ◌≤◌, ◌<◌, true, false, is_some, ap, rules, LeavesNow, LeavesOnly, Ghosts, is_idle, names_store, names_swap, refused_count, Command, EIO, SwapDevice, StoreDevice, Reply, Refused, Stalled, Step}
 use Rattle.machine.{proofs.Names.{Causes, State}, specs.{Engine.{MayStand, HoldsIn, StandsForSome}, Machine.{store_of, swap_of, halted_of, past_of, refused_of, mode_of, bits_of, KeepsSizes, IsCausedBetween, Shows, Meets, IsReadable}}}
-use Rattle.{machine.specs.declared.machine.Machine.{Machine, TheVariants.{Sv39, Sv48}}, stores.specs.Store.{disk_of}}
+use Rattle.{machine.specs.declared.machine.Machine.{Machine, TheVariants.{Sv39, Sv48}}, msync.specs.Shows.{SaysMost}, stores.specs.Store.{disk_of}}
 
 module _ {D E : Type 0} (g : Ghosts D) (h : Ghosts E) where
   -- what came to pass between two machines
@@ -18,10 +18,11 @@ module _ {D E : Type 0} (g : Ghosts D) (h : Ghosts E) where
     pub past : past_of m ≡ s.past
     pub same_mode : s.mode ≡ bits_of (mode_of m)
     pub stands : g.keeps_model (store_of m) → LeavesNow g (store_of m) (StandsForSome (g.sector_count (store_of m)) s.files (MayStand s))
+    pub most_stands : g.keeps_model (store_of m) → LeavesNow g (store_of m) (SaysMost (g.sector_count (store_of m)) s.most)
 
   pub shown : (m : Machine D E) (s : State) → Shows g h m s → IsShown m s
-  shown (Sv39 m) s shows = record { running = shows.running; past = shows.past; same_mode = shows.pages.same_mode; stands = shows.stands }
-  shown (Sv48 m) s shows = record { running = shows.running; past = shows.past; same_mode = shows.pages.same_mode; stands = shows.stands }
+  shown (Sv39 m) s shows = record { running = shows.running; past = shows.past; same_mode = shows.pages.same_mode; stands = shows.stands; most_stands = shows.most_stands }
+  shown (Sv48 m) s shows = record { running = shows.running; past = shows.past; same_mode = shows.pages.same_mode; stands = shows.stands; most_stands = shows.most_stands }
 
   -- of two devices that keep their models every command may read
   pub readable : (m : Machine D E) (s : State) (command : Command) → g.keeps_model (store_of m) → h.keeps_model (swap_of m) → IsReadable g h m s command
@@ -39,6 +40,7 @@ module _ {D E : Type 0} (g : Ghosts D) (h : Ghosts E) where
     pub swap_kept : h.keeps_model (swap_of new) → h.keeps_model (swap_of old)
     pub idle : is_idle s command reply ≡ true → (store_of new ≡ store_of old) × (swap_of new ≡ swap_of old)
     pub moments : g.keeps_model (store_of new) → LeavesOnly g (store_of old) (store_of new) (StandsForSome (g.sector_count (store_of old)) s.files (HoldsIn s command reply))
+    pub most_moments : g.keeps_model (store_of new) → LeavesOnly g (store_of old) (store_of new) (SaysMost (g.sector_count (store_of old)) s.most)
 
   pub face : (old new : Machine D E) (s t : State) (command : Command) (reply : Reply) → Meets g h old new s t command reply → IsMet old new s t command reply
   face (Sv39 old) (Sv39 new) s t command reply meets =

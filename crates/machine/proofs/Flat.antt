@@ -6,6 +6,7 @@ use Rattle.machine.proofs.Names.{KeepsDevices, settles_nothing, writes_none, emp
 use Rattle.machine.proofs.Names.{Halted, page_count, Files, user_end, Past, Step, Answers, Stalls, Stays, MayStall, State, IsRunning, outcome, noted, past_after, ruling, takes, Pages}
 use Rattle.machine.{specs.{Engine.{stands_in, MayStand, HoldsIn, StandsForSome, EngineShows, EngineMeets}, Accesses.{Accesses}, declared.engine.Engine.{Engine}}, proofs.Steps.{outcome_keeps, past_stalled}}
 use Rattle.msync.specs.Shows as Syncing
+use Rattle.msync.specs.Shows.{SaysMost}
 use Rattle.spaces.specs.Calls as Calls
 use Rattle.vm_types.specs.declared.access.Access.TheVariants as Kinds
 use Rattle.stores.specs.{Store.{always_free_in, disk_of, kept_of}, declared.store.Store.{Store as AnyStore}}
@@ -81,6 +82,10 @@ module _ {mode : ℕ} where
   pub with_past : (c : Picture mode) (s : State) (past : Past) → ShowsPages c s → ShowsPages c (record s { past = past })
   with_past c s past shows = search rules
 
+-- what may stand in a state may stand in a command of it
+holds_meanwhile : (n : ℕ) (s : State) (command : Command) (reply : Reply) (c : Image) → StandsForSome n s.files (MayStand s) c → StandsForSome n s.files (HoldsIn s command reply) c
+holds_meanwhile n s command reply c p = (p.0, inl p.1, p.2)
+
 -- the same files, as many pages of an msync, running or halted as before, and the same durable pages
 record Leaves (s t : State) : Type 0 where
   pub files : t.files ≡ s.files
@@ -96,19 +101,15 @@ same_stands n s t c kept p = (
 )
 
 module _ {D : Type 0} (g : Ghosts D) where
-  no_time : (only_now : OnlyNow g) (d : D) (n : ℕ) (s : State) (command : Command) (reply : Reply) → g.keeps_model d
-      → LeavesNow g d (StandsForSome n s.files (MayStand s)) → LeavesOnly g d d (StandsForSome n s.files (HoldsIn s command reply))
-  no_time only_now d n s command reply keeps stands =
-      started g d (StandsForSome n s.files (HoldsIn s command reply)) (λ c left. only_now d c keeps left)
-      (λ c may. let p = stands c may in (p.0, inl p.1, p.2))
+  -- no time passed: what stood is what stands now
+  no_time : (only_now : OnlyNow g) (d : D) (P : Image → Type 0) → g.keeps_model d → LeavesNow g d P → LeavesOnly g d d P
+  no_time only_now d P keeps stands = started g d P (λ c left. only_now d c keeps left) stands
 
   -- nothing was written: what stands while the command runs is what stood before it
-  only_read : (only_now : OnlyNow g) (old new : D) (n : ℕ) (s : State) (command : Command) (reply : Reply) → g.keeps_model old
-      → LeavesNow g old (StandsForSome n s.files (MayStand s)) → Touches g Nothing old new
-      → LeavesOnly g old new (StandsForSome n s.files (HoldsIn s command reply))
-  only_read only_now old new n s command reply keeps stands run =
-      goes_on g Nothing old old new (StandsForSome n s.files (HoldsIn s command reply)) (no_time only_now old n s command reply keeps stands) run
-      (λ c may. let p = stands c (record { kept = λ k. ⊎_elim (⊎_elim inl (λ none. absurd none)) inr (may.kept k) }) in (p.0, inl p.1, p.2))
+  only_read : (only_now : OnlyNow g) (old new : D) (P : Image → Type 0) → g.keeps_model old → LeavesNow g old P → Touches g Nothing old new → LeavesOnly g old new P
+  only_read only_now old new P keeps stands run =
+      goes_on g Nothing old old new P (no_time only_now old P keeps stands) run
+      (λ c may. stands c (record { kept = λ k. ⊎_elim (⊎_elim inl (λ none. absurd none)) inr (may.kept k) }))
 
 module _ {M : Type 0} {levels : Levels.Ghosts M} {D E : Type 0} (g : Ghosts D) (h : Ghosts E) where
   pub is_running : (m : Engine D E M levels) (s : State) → EngineShows g h m s → m.halted ≡ false → IsRunning s
@@ -123,7 +124,7 @@ module _ {M : Type 0} {levels : Levels.Ghosts M} {D E : Type 0} (g : Ghosts D) (
 
   -- a running machine's processes and files
   pub shows_core : (old : Engine D E M levels) (s : State) → EngineShows g h old s → IsRunning s → Syncing.HasSyncRoom g old.core old.sync_room → Syncing.CoreShows g old.core s
-  shows_core old s shows run sized = record { pages = shows.pages; most = shows.most ∙ sized.most; stands = λ k. durable_now old s shows run k }
+  shows_core old s shows run sized = record { pages = shows.pages; most = shows.most ∙ sized.most; stands = λ k. durable_now old s shows run k; most_stands = shows.most_stands }
 
   -- there is room for an msync still
   pub room_still : (old core : Core D E M levels) (room : Syncing.RoomSize) → always_free_in (kept_of core.store) ≡ always_free_in (kept_of old.store)
@@ -149,17 +150,27 @@ module _ {M : Type 0} {levels : Levels.Ghosts M} {D E : Type 0} (g : Ghosts D) (
         (subst (λ (sectors : ℕ). StandsForSome sectors s.files (MayStand s) c) (sym reads.size)
         (still_leaves g (disk_of old.core.store) (disk_of core.store) (StandsForSome n s.files (MayStand s)) (reads.touches k) (shows.stands (reads.kept k)) c may))
 
+    moved_most : (t : State) → Leaves s t → g.keeps_model (disk_of core.store) → LeavesNow g (disk_of core.store) (SaysMost (g.sector_count (disk_of core.store)) t.most)
+    moved_most t kept k = λ c may.
+        subst (λ (most : ℕ). SaysMost (g.sector_count (disk_of core.store)) most c) (sym kept.most)
+        (subst (λ (sectors : ℕ). SaysMost sectors s.most c) (sym reads.size)
+        (still_leaves g (disk_of old.core.store) (disk_of core.store) (SaysMost n s.most) (reads.touches k) (shows.most_stands (reads.kept k)) c may))
+
     goes : (t : State) → Leaves s t → is_some t.ends ≡ false
     goes t kept = rw kept.ends (rw (is_running old s shows run) refl)
 
     during : g.keeps_model (disk_of core.store) → LeavesOnly g (disk_of old.core.store) (disk_of core.store) (StandsForSome n s.files (HoldsIn s command reply))
-    during k = only_read g only_now (disk_of old.core.store) (disk_of core.store) n s command reply (reads.kept k) (shows.stands (reads.kept k)) (reads.touches k)
+    during k = only_read g only_now (disk_of old.core.store) (disk_of core.store) (StandsForSome n s.files (HoldsIn s command reply)) (reads.kept k)
+        (λ c may. holds_meanwhile n s command reply c (shows.stands (reads.kept k) c may)) (reads.touches k)
+
+    most_during : g.keeps_model (disk_of core.store) → LeavesOnly g (disk_of old.core.store) (disk_of core.store) (SaysMost n s.most)
+    most_during k = only_read g only_now (disk_of old.core.store) (disk_of core.store) (SaysMost n s.most) (reads.kept k) (shows.most_stands (reads.kept k)) (reads.touches k)
 
     -- what is the same however it ends
     told : (t : State) → Step (Calls.causes g h old.core core) s command reply t → EngineShows g h new t
         → ((stall : Stall) → reply ≡ Reply.Stalled stall → Calls.FallsShort (frame_count core.frames) (slots_of core.swap).total s command stall)
         → EngineMeets g h old new s t command reply
-    told t step shown capacity = let moments = during in search rules
+    told t step shown capacity = let moments = during in let most_moments = most_during in search rules
 
     did : takes s (ruling s command) s.durable ≡ s.durable → reply ≡ (outcome s command).reply → ShowsPages (picture_of core) (outcome s command).state
         → (t : State) × EngineMeets g h old new s t command reply
@@ -174,6 +185,7 @@ module _ {M : Type 0} {levels : Levels.Ghosts M} {D E : Type 0} (g : Ghosts D) (
             past = kept_past ∙ ap (past_after command reply) (shows.past ∙ sym all.past);
             most = kept.most ∙ shows.most;
             stands = moved t kept;
+            most_stands = moved_most t kept;
           }) (λ stall e. absurd (all.answers stall (sym answer ∙ e))),
         )
 
@@ -188,6 +200,7 @@ module _ {M : Type 0} {levels : Levels.Ghosts M} {D E : Type 0} (g : Ghosts D) (
             past = kept_past ∙ ap (λ (r : Reply). past_after command r old.past) answer ∙ past_stalled command stall old.past ∙ shows.past;
             most = shows.most;
             stands = moved s kept;
+            most_stands = moved_most s kept;
           }) (λ other e. subst (Calls.FallsShort (frame_count core.frames) (slots_of core.swap).total s command) (same_stall stall other (sym answer ∙ e)) short),
         )
 
@@ -217,7 +230,9 @@ module _ {M : Type 0} {levels : Levels.Ghosts M} {D E : Type 0} (g : Ghosts D) (
   stays_halted only_now old s command shows stop =
       let ends = halted_of s.ends (shows.running ∙ stop) in
       let n = g.sector_count (disk_of old.core.store) in
-      let moments = λ (k : g.keeps_model (disk_of old.core.store)). no_time g only_now (disk_of old.core.store) n s command Halted k (shows.stands k) in
+      let moments = λ (k : g.keeps_model (disk_of old.core.store)). no_time g only_now (disk_of old.core.store) (StandsForSome n s.files (HoldsIn s command Halted)) k
+      (λ c may. holds_meanwhile n s command Halted c (shows.stands k c may)) in
+      let most_moments = λ (k : g.keeps_model (disk_of old.core.store)). no_time g only_now (disk_of old.core.store) (SaysMost n s.most) k (shows.most_stands k) in
       let step : Step (Calls.causes g h old.core old.core) s command Halted s = Stays ends.0 ends.1 refl refl in
       let capacity : (stall : Stall) → Halted ≡ Reply.Stalled stall → Calls.FallsShort (frame_count old.core.frames) (slots_of old.core.swap).total s command stall = λ stall e. absurd (cc) in
       (s, search rules)

@@ -1,11 +1,11 @@
 -- Accesses that hardware makes by itself are commands that are carried out.
 use Rattle.vm_types.specs.declared.mode.Levels as Levels
 use Rattle.machine.proofs.Names.{ℕ, zero, suc, ◌≢◌, ◌≡◌, ◌/◌, ◌%◌, ⊎_elim, true, false, is_some, List, [], ◌∷◌, refl, sym, ap, ◌∙◌, subst, arith, rules, inl, inr, Ghosts, picture_of, Core, KeepsToPage, AsksFor, is_denial, is_idle}
-use Rattle.machine.proofs.Names.{past_after, ruling, takes, Access, StoredValue, Command, Load, Store, Fetch, Reply, Done, Width, State, IsRunning, Backing}
+use Rattle.machine.proofs.Names.{past_after, ruling, takes, Access, StoredValue, Command, Load, Store, Fetch, Reply, Done, Width, State, IsRunning}
 use Rattle.machine.proofs.{Accesses.{carries_out, on_page}, Counts.{counts}, Face.{face, readable}, Flat.{OnlyNow, unread, unused}, HardwareWalks.{user_walked, walks_same}, Runs.{all_ran, ran_first, room_none, room_then, RanSoFar}, Tidied.{tidied}}
 use Rattle.fault.{proofs.{Chances.{others_kept, others_same}, Ready.{grants_found}, Serving.{tends_none}, Settling.{beside_around}, Wanted.{walked_same}}, specs.{Changes.{IsThatPage}, Outcome.{IsPlaced}, Serving.{Reaches}, Wants.{ShowsFile}}}
 use Rattle.frames.{proofs.FrameLemmas.{IsHeld-above, IsHeld-not_zero, IsSound-step, with_bytes-others}, specs.{FrameTable.{FrameTable, IsHeld, bytes_of, frame_count, role_of, with_bytes}, declared.role.Role.TheVariants.{Table}}}
-use Rattle.{stores.specs.Store.{disk_of, kept_of, HasRoom, IsReadyStore}, msync.specs.Shows.{IsSoundCore}, residency.specs.{Parts.{IsFit}, Picture.{Picture}}, std.specs.Prelude.{Ok}, sv39_walk.specs.Walk.{is_store}, swap.specs.Slots.{IsReady}}
+use Rattle.{stores.specs.Store.{disk_of, kept_of, HasRoom, IsReadyStore}, msync.specs.Shows.{IsSoundCore}, std.specs.Prelude.{Ok}, sv39_walk.specs.Walk.{is_store}, swap.specs.Slots.{IsReady}}
 use Rattle.spaces.{proofs.{Asking.{asks_unstalled, writes_none}, Reading.{reads}, Writing.{data_frame, entries_stored, open_held, fit_stored, others_stored, room_stored, slotted_stored, stores}}, specs.{Accesses.{CarriesRead, WritesNumber}, Calls.{Carries}}}
 use Rattle.vm_types.specs.{Access.{loaded, with_number}, Width.{byte_count}, declared.{number.Phys.{Phys}, reply.Reply.TheVariants.{Value}, width.Width.TheVariants.{Four}}}
 use Rattle.vm_types.specs.declared.access.Access.TheVariants as Kinds

@@ -1,5 +1,5 @@
 -- The second chance that an access gives other pages.
-use Rattle.machine.proofs.Names.{ℕ, ◌≡◌, ◌/◌, true, false, sym, ◌∙◌, refl, Ghosts, Access, StoredValue, Load, Store, Fetch, Done, Width, Core, picture_of}
+use Rattle.machine.proofs.Names.{ℕ, ◌≡◌, ◌/◌, true, false, sym, ◌∙◌, refl, Ghosts, Access, StoredValue, Load, Store, Fetch, Done, Width, picture_of}
 use Rattle.machine.proofs.HardwareWalks.{user_walked}
 use Rattle.fault.{proofs.Ready.{answer-places, walk_entry}, specs.Chances.{GivesOthersChance}}
 use Rattle.frames.specs.FrameTable.{frame_count}

@@ -9,6 +9,12 @@ step_files causes s command reply t (Fails after run c cause r e) = ap (λ (x : 
 step_files causes s command reply t (Stalls stall run may r e) = ap (λ (x : State). x.files) e
 step_files causes s command reply t (Stays ends is r e) = ap (λ (x : State). x.files) e
 
+pub step_most : (causes : Causes) (s : State) (command : Command) (reply : Reply) (t : State) → Step causes s command reply t → t.most ≡ s.most
+step_most causes s command reply t (Answers run r e) = ap (λ (x : State). x.most) e ∙ (outcome_keeps s command).most
+step_most causes s command reply t (Fails after run c cause r e) = ap (λ (x : State). x.most) e
+step_most causes s command reply t (Stalls stall run may r e) = ap (λ (x : State). x.most) e
+step_most causes s command reply t (Stays ends is r e) = ap (λ (x : State). x.most) e
+
 either_way : (b : Bool) (d : Pages) → (if b then d else d) ≡ d
 either_way true d = refl
 either_way false d = refl

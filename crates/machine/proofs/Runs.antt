@@ -1,6 +1,7 @@
 -- A chain of commands, and what a stop in it leaves.
 use Rattle.machine.proofs.Names.{ℕ, zero, suc, ◌≡◌, ◌≤◌, ◌⊎◌, inl, inr, ⊎_elim, List, [], ◌∷◌, ◌++◌, Option, Some, refl, sym, ap, ◌∙◌, subst, arith, Image, Ghosts, Command, Reply, Files, Event, StandsFor}
-use Rattle.machine.proofs.{Face.{causes, shown, face}, Flat.{OnlyNow}, Names.{acknowledged, State, Pages}, Prefixes.{halted_event, halted_stays, left_after, left_during, left_first, left_here, left_in, left_none, none_acknowledged, step_files}}
+use Rattle.machine.proofs.{Face.{causes, shown, face}, Flat.{OnlyNow}, Names.{acknowledged, State, Pages}, Prefixes.{halted_event, halted_stays, left_after, left_during, left_first, left_here, left_in, left_none, none_acknowledged, step_files, step_most}}
+use Rattle.msync.specs.Shows.{SaysMost}
 use Rattle.machine.specs.{Chain.{event, Caused, Chain, after, Runs}, Engine.{MayStand, HoldsIn, StandsForSome}, Machine.{store_of, KeepsSizes, IsCausedBetween, Shows, Meets}, declared.machine.Machine.{Machine}}
 
 -- the same image stands for contents of which Q holds
@@ -96,6 +97,45 @@ module _ {D E : Type 0} (g : Ghosts D) (h : Ghosts E) where
       (leaves_since c.0 c.1 xs rs es new t c.4 keeps only_now meets.shows k image left))
   leaves_since old s commands replies events new t c keeps only_now shows k image left = absurd c
 
+  -- what says the pages of an msync after a command says those before it
+  same_most : (old mid : Machine D E) (s u : State) (image : Image) → g.sector_count (store_of mid) ≡ g.sector_count (store_of old) → u.most ≡ s.most
+      → SaysMost (g.sector_count (store_of mid)) u.most image → SaysMost (g.sector_count (store_of old)) s.most image
+  same_most old mid s u image size most says = subst (λ (n : ℕ). SaysMost n s.most image) size (says ∙ most)
+
+  -- what stood since a moment before the chain stood then, or says as many pages of an msync as the state
+  most_leaves : (old : Machine D E) (s : State) (commands : List Command) (replies : List Reply) (events : List Event) (new : Machine D E) (t : State)
+      → Chain g h old s commands replies events new t → g.keeps_model (store_of new) → (m : ℕ) (image : Image) → m ≤ g.moment (store_of old) → g.left_since (store_of new) m image
+      → g.left_since (store_of old) m image ⊎ SaysMost (g.sector_count (store_of old)) s.most image
+  most_leaves old s [] [] [] new t c keeps m image le left = inl (subst (λ (x : Machine D E). g.left_since (store_of x) m image) c.0 left)
+  most_leaves old s (x ∷ xs) (r ∷ rs) (e ∷ es) new t c keeps m image le left =
+      let meets = face g h old c.0 s c.1 x r c.3 in
+      let only = meets.most_moments (chain_kept c.0 c.1 xs rs es new t c.4 keeps) in
+      ⊎_elim (λ before. only.before m image le before)
+      (λ says. inr (same_most old c.0 s c.1 image meets.size (step_most (causes g h old c.0) s x r c.1 meets.step) says))
+      (most_leaves c.0 c.1 xs rs es new t c.4 keeps m image (omega (arith, le, only.later)) left)
+  most_leaves old s commands replies events new t c keeps m image le left = absurd c
+
+  most_from : (old : Machine D E) (s : State) (commands : List Command) (replies : List Reply) (events : List Event) (new : Machine D E) (t : State)
+      → Chain g h old s commands replies events new t → g.keeps_model (store_of new) → OnlyNow g → Shows g h old s
+      → (image : Image) → g.left_since (store_of new) (g.moment (store_of old)) image → SaysMost (g.sector_count (store_of old)) s.most image
+  most_from old s commands replies events new t c keeps only_now shows image left =
+      let kept = chain_kept old s commands replies events new t c keeps in
+      ⊎_elim (λ o. (shown g h old s shows).most_stands kept image (only_now (store_of old) image kept o)) (λ says. says)
+      (most_leaves old s commands replies events new t c keeps (g.moment (store_of old)) image (omega arith) left)
+
+  -- so does what a stop leaves that comes after the first k commands
+  pub most_since : (old : Machine D E) (s : State) (commands : List Command) (replies : List Reply) (events : List Event) (new : Machine D E) (t : State)
+      → (c : Chain g h old s commands replies events new t) → g.keeps_model (store_of new) → OnlyNow g → Shows g h old s
+      → (k : ℕ) (image : Image) → g.left_since (store_of new) (g.moment (store_of (after g h old s commands replies events new t c k))) image
+      → SaysMost (g.sector_count (store_of old)) s.most image
+  most_since old s [] [] [] new t c keeps only_now shows k image left = most_from old s [] [] [] new t c keeps only_now shows image left
+  most_since old s (x ∷ xs) (r ∷ rs) (e ∷ es) new t c keeps only_now shows zero image left = most_from old s (x ∷ xs) (r ∷ rs) (e ∷ es) new t c keeps only_now shows image left
+  most_since old s (x ∷ xs) (r ∷ rs) (e ∷ es) new t c keeps only_now shows (suc k) image left =
+      let meets = face g h old c.0 s c.1 x r c.3 in
+      same_most old c.0 s c.1 image meets.size (step_most (causes g h old c.0) s x r c.1 meets.step)
+      (most_since c.0 c.1 xs rs es new t c.4 keeps only_now meets.shows k image left)
+  most_since old s commands replies events new t c keeps only_now shows k image left = absurd c
+
   -- one command more
   pub chain_more : (old : Machine D E) (s : State) (commands : List Command) (replies : List Reply) (events : List Event) (mid : Machine D E) (u : State) (new : Machine D E) (t : State) (x : Command) (r : Reply)
       → Chain g h old s commands replies events mid u → Meets g h mid new u t x r
@@ -139,4 +179,5 @@ module _ {D E : Type 0} (g : Ghosts D) (h : Ghosts E) where
     prefixes = λ run keeps k image left.
         subst (λ (o : Option (List Pages)). StandsForSome (g.sector_count (store_of old)) s.files (left_in o s.durable ran.events k) image) run
         (leaves_since old s commands replies ran.events new ran.last ran.chain keeps only_now shows k image left);
+    most = λ keeps k image left. most_since old s commands replies ran.events new ran.last ran.chain keeps only_now shows k image left;
   }

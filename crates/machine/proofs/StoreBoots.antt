@@ -1,14 +1,14 @@
 -- A store that a boot opens, from what its opening and the room made in it say.
-use Rattle.machine.proofs.Names.{ℕ, ◌≡◌, ◌⊎◌, ◌∙◌, inl, inr, ⊎_elim, Bool, true, false, refl, sym, ap, subst, arith, cases_Bool}
-use Rattle.machine.proofs.Names.{LeavesNow, LeavesOnly, Image, MayLeave, Ghosts, joined, weaker, asks_none, asks_then, asks_wider, StandsFor, StandsAs, file_info, standing_page, OpenFault}
+use Rattle.machine.proofs.Names.{ℕ, ◌≡◌, ◌≤◌, ◌*◌, ◌⊎◌, ◌∙◌, inl, inr, ⊎_elim, Bool, true, false, refl, sym, ap, subst, arith, cases_Bool}
+use Rattle.machine.proofs.Names.{LeavesNow, LeavesOnly, Image, MayLeave, Ghosts, holds_now, joined, weaker, asks_none, asks_then, asks_wider, StandsFor, StandsAs, file_info, standing_page, OpenFault}
 use Rattle.machine.specs.{Boot.{BootLeaves, IsAskedToBoot}, Fault.{boot_fault}, StoreBoot.{BootsStore, RefusesStore, RunsStoreBoot}}
-use Rattle.machine.specs.declared.boot.{BootFault.{BootFault}, BootFault.TheVariants.{Frames, Slots, Device, BadLayout, BadJournal}}
+use Rattle.machine.specs.declared.boot.{BootFault.TheVariants.{Frames, Slots, Device, BadLayout, BadJournal}}
 use Rattle.std.specs.Prelude.{Result, Ok, Err}
 use Rattle.disk_model.specs.{Moments.{AsksOnly}, declared.sector_disk.DiskFault.{DiskFault}}
 use Rattle.file_store.specs.Standing.{AreBounded}
-use Rattle.stores.proofs.{Heads.{same_mark}, Said.{committed_inside, kind_outside, mark_outside, outside_alike, roomy, stands_as_said, stands_for_own, used_inside}}
-use Rattle.stores.specs.{Images.{is_pool, IsAskedToOpen, IsOutside}, Opened.{OpensFrom, RefusesToOpen, RunsOpening}, Rooms.{MakesRoom}}
-use Rattle.stores.specs.Store.{AnyDirectory, disk_of, files_in, kept_of, IsUsedIn}
+use Rattle.stores.proofs.{Heads.{same_blocks, same_mark}, Said.{committed_inside, kind_outside, mark_outside, outside_alike, roomy, stands_as_said, stands_for_own, used_inside}}
+use Rattle.stores.specs.{Images.{is_pool, says_by, IsAskedToOpen, IsOutside, SaysMostOf}, Opened.{OpensFrom, RefusesToOpen, RunsOpening}, Rooms.{MakesRoomFor}}
+use Rattle.stores.specs.Store.{AnyDirectory, StoreKept, StoreKept.{OfJournal, OfPool}, always_free_in, capacity_in, disk_of, files_in, kept_of, IsUsedIn}
 use Rattle.stores.specs.declared.{faults.OpenFault.TheVariants.{Device as StoreDevice, BadLayout as StoreLayout, BadJournal as StoreJournal, Memory as StoreMemory}, store.Store.{Store}}
 
 -- a fault that is told is the one that came
@@ -43,12 +43,19 @@ no_device StoreLayout e same = cc
 no_device StoreJournal e same = cc
 no_device StoreMemory e same = cc
 
+-- every commit takes no more pages than a commit may where all slots are free
+pub always_fits : (kept : StoreKept) → always_free_in kept ≤ capacity_in kept
+always_fits (OfJournal directory journal) = omega arith
+always_fits (OfPool directory journal) = omega arith
+
 module _ {D : Type 0} (g : Ghosts D) where
   -- what stands for what the store stood for stands for what stood before earlier stops
   leaves_by : (entry new : D) → (g.keeps_model new → ((k : ℕ) → g.unsynced entry k → ⊥) → LeavesOnly g entry new (StandsAs (g.sector_count entry) (g.content entry)))
+      → (g.keeps_model new → ((k : ℕ) → g.unsynced entry k → ⊥) → LeavesOnly g entry new (SaysMostOf (g.sector_count entry) (g.content entry)))
       → BootLeaves g entry new
-  leaves_by entry new moment = record {
+  leaves_by entry new moment most_moment = record {
     any_moment = moment;
+    most_moment = most_moment;
     in_a_row = λ keeps synced first stands. weaker g entry new (StandsAs (g.sector_count entry) (g.content entry)) (StandsAs (g.sector_count entry) first)
         (λ image here files pages was. here files pages (stands files pages was)) (moment keeps synced);
   }
@@ -62,7 +69,7 @@ module _ {D : Type 0} (g : Ghosts D) where
     asks = λ keeps. asks_wider g (IsAskedToOpen (g.sector_count entry) (g.content entry)) (IsAskedToBoot (g.sector_count entry) (g.content entry)) entry new
         (λ k asked. inl asked) (run.asks keeps);
     outside = run.outside;
-    leaves = leaves_by entry new run.any_moment;
+    leaves = leaves_by entry new run.any_moment run.most_moment;
   }
 
   -- The store can't be opened.
@@ -103,11 +110,22 @@ module _ {D : Type 0} (g : Ghosts D) where
     outside_still : g.keeps_model (disk_of mid) → is_pool image ≡ true → (k : ℕ) → IsOutside n image k → IsOutside (g.sector_count (disk_of mid)) opened_image k
     outside_still keeps marked k out = subst (λ x. IsOutside x opened_image k) (sym opened.size) (outside_alike n image opened_image (mark keeps) (kind keeps marked) marked k out)
 
-    -- Room is made in it:
-    module _ (new : Store D) (result : Result (Unit {0}) DiskFault) (made : MakesRoom g mid new result) where
-      -- where it is one of layout 2 or 3 nothing is done,
+    -- so it says as many pages of an msync
+    most_still : g.keeps_model (disk_of mid) → SaysMostOf n image opened_image
+    most_still keeps = ap (λ b. (says_by b n opened_image).most) (same_mark image opened_image (mark keeps)) ∙ from (is_pool image) refl
+      where
+        from : (b : Bool) → is_pool image ≡ b → (says_by b n opened_image).most ≡ (says_by b n image).most
+        from false is = refl
+        from true is = ap (λ m. 504 * m) (same_blocks image opened_image (kind keeps is))
+
+    most_as : g.keeps_model (disk_of mid) → (c : Image) → SaysMostOf (g.sector_count (disk_of mid)) opened_image c → SaysMostOf n image c
+    most_as keeps c says = subst (λ x. SaysMostOf x opened_image c) opened.size says ∙ most_still keeps
+
+    -- Room is made in it for as many pages as every commit may take:
+    module _ (count : ℕ) (every : count ≡ always_free_in (kept_of mid)) (new : Store D) (result : Result (Unit {0}) DiskFault) (made : MakesRoomFor g count mid new result) where
+      -- where it is one of layout 2 nothing is done,
       idle : g.keeps_model (disk_of new) → is_pool image ≡ false → new ≡ mid
-      idle keeps unmarked = made.idle (roomy g mid opened.ready (made.kept keeps) (is_still false (made.kept keeps) unmarked)).1
+      idle keeps unmarked = made.idle (let free = (roomy g mid opened.ready (made.kept keeps) (is_still false (made.kept keeps) unmarked)).1 in omega (arith, every, free))
 
       asks : g.keeps_model (disk_of new) → AsksOnly g (IsAskedToBoot n image) (disk_of mid) (disk_of new)
       asks keeps = ⊎_elim
@@ -144,6 +162,10 @@ module _ {D : Type 0} (g : Ghosts D) where
       now : g.keeps_model (disk_of new) → LeavesNow g (disk_of new) (StandsAs n image)
       now keeps c may = stands_as c (made.stands keeps (file_info n image) (standing_page n image) (left keeps) c may)
 
+      -- with as many pages of an msync,
+      most_moment : g.keeps_model (disk_of new) → LeavesOnly g (disk_of mid) (disk_of new) (SaysMostOf n image)
+      most_moment keeps = weaker g (disk_of mid) (disk_of new) (SaysMostOf (g.sector_count (disk_of mid)) opened_image) (SaysMostOf n image) (most_as (made.kept keeps)) (made.most_moment keeps)
+
       run : RunsStoreBoot g entry (disk_of new)
       run = record {
         size = made.size ∙ opened.size;
@@ -154,27 +176,31 @@ module _ {D : Type 0} (g : Ghosts D) where
         outside = λ keeps k out. outside keeps k out ∙ opened.outside (made.kept keeps) k out;
         leaves = leaves_by entry (disk_of new) (λ keeps synced. joined g entry (disk_of mid) (disk_of new) (StandsAs n image) (opened.any_moment (made.kept keeps) synced)
             (weaker g (disk_of mid) (disk_of new) (StandsStill (g.sector_count (disk_of mid))) (StandsAs n image) stands_as
-            (made.any_moment keeps (file_info n image) (standing_page n image) (left keeps))));
+            (made.any_moment keeps (file_info n image) (standing_page n image) (left keeps))))
+            (λ keeps synced. joined g entry (disk_of mid) (disk_of new) (SaysMostOf n image) (opened.most_moment (made.kept keeps) synced) (most_moment keeps));
       }
 
     -- enough for every commit,
-    pub boots_store : (new : Store D) → MakesRoom g mid new (Ok (tt {0})) → BootsStore g entry new
-    boots_store new made = record {
-      run = run new (Ok (tt {0})) made;
+    pub boots_store : ((d : D) (t : ℕ) (c : Image) → g.keeps_model d → t ≤ g.moment d → MayLeave (g.content d) (g.unsynced d) c → g.left_since d t c)
+        → (count : ℕ) → count ≡ always_free_in (kept_of mid) → (new : Store D) → MakesRoomFor g count mid new (Ok (tt {0})) → BootsStore g entry new
+    boots_store counts_now count every new made = record {
+      run = run count every new (Ok (tt {0})) made;
       ready = made.ready;
-      room = (let free = made.room in let same = made.always in omega (arith, free, same));
+      room = (let free = made.room in let same = made.always in omega (arith, free, same, every));
       bounded = subst (λ (directory : AnyDirectory). AreBounded (files_in directory)) (sym made.files) opened.bounded;
       layout = λ keeps. opened.good_layout (made.kept keeps);
       journal = λ keeps. opened.good_journal (made.kept keeps);
-      now = now new (Ok (tt {0})) made;
+      now = now count every new (Ok (tt {0})) made;
+      most_now = λ keeps. holds_now g (disk_of mid) (disk_of new) (SaysMostOf n image) (λ t c le may. counts_now (disk_of new) t c keeps le may) (most_moment count every new (Ok (tt {0})) made keeps);
       most = λ keeps. made.always ∙ opened.most (made.kept keeps);
       calm = made.cause.calm ∙ opened.calm;
     }
 
     -- or the device fails.
-    pub refuses_failed : (new : Store D) (fault : DiskFault) → MakesRoom g mid new (Err fault) → RefusesStore g entry Device (disk_of new)
-    refuses_failed new fault made = record {
-      err_run = run new (Err fault) made;
+    pub refuses_failed : (count : ℕ) → count ≡ always_free_in (kept_of mid) → (new : Store D) (fault : DiskFault) → MakesRoomFor g count mid new (Err fault)
+        → RefusesStore g entry Device (disk_of new)
+    refuses_failed count every new fault made = record {
+      err_run = run count every new (Err fault) made;
       sized = λ e. ⊎_elim (λ e'. cc) (λ e'. cc) e;
       device = λ e. (let more = made.cause.failed refl in let calm = opened.calm in omega (arith, more, calm));
       err_calm = λ other. absurd (other refl);

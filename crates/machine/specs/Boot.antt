@@ -3,7 +3,7 @@ use Rattle.std.specs.Prelude.{ℕ, ◌*◌, ◌^◌, ◌≡◌, ◌<◌, ◌≤�
 use Rattle.disk_model.specs.Moments.{Touches, AsksOnly, Nothing, LeavesOnly}
 use Rattle.disk_model.specs.Stop.{Image}
 use Rattle.disk_model.specs.declared.sector_disk.SectorDisk.{Ghosts}
-use Rattle.stores.specs.Images.{is_pool, most_pages, StandsFor, StandsAs, IsBadLayout, IsBadJournal, IsAskedToOpen, IsOutside}
+use Rattle.stores.specs.Images.{is_pool, most_pages, SaysMostOf, StandsFor, StandsAs, IsBadLayout, IsBadJournal, IsAskedToOpen, IsOutside}
 use Rattle.vm_types.specs.State.{State, IsRunning}
 use Rattle.machine.specs.declared.boot.BootFault.{BootFault}
 use Rattle.machine.specs.declared.boot.BootFault.TheVariants.{Frames, Slots, Device, BadLayout, BadJournal}
@@ -19,7 +19,7 @@ HasBadFrames config = (config.frames < 8) ⊎ (2 ^ 16 < config.frames)
 abbrev pub HasBadSlots : Config → ℕ → Type 0
 HasBadSlots config sectors = (2 ^ 16 < config.slots) ⊎ (sectors < 8 * config.slots)
 
--- What a boot asks a store's device for: what an opening does, and of a pool any sector of gate, maps, slots and homes, since a commit of no pages may
+-- What a boot asks a store's device for: what an opening does, and of a pool any sector of gate, maps, slots and homes, since pages may go home to
 -- make room for the first msync.
 abbrev pub IsAskedToBoot : ℕ → Image → ℕ → Type 0
 IsAskedToBoot sectors image k = IsAskedToOpen sectors image k ⊎ ((is_pool image ≡ true) × (IsOutside sectors image k → ⊥))
@@ -131,6 +131,9 @@ module _ {D : Type 0} (g : Ghosts D) where
     -- it stands for what the store did
     pub any_moment : g.keeps_model new → ((k : ℕ) → g.unsynced store k → ⊥)
         → LeavesOnly g store new (StandsAs (g.sector_count store) (g.content store))
+    -- with as many pages of an msync,
+    pub most_moment : g.keeps_model new → ((k : ℕ) → g.unsynced store k → ⊥)
+        → LeavesOnly g store new (SaysMostOf (g.sector_count store) (g.content store))
     -- and for what stood before any earlier stop, where the store was left by one
     pub in_a_row : g.keeps_model new → ((k : ℕ) → g.unsynced store k → ⊥) → (first : Image) → StandsAs (g.sector_count store) first (g.content store)
         → LeavesOnly g store new (StandsAs (g.sector_count store) first)

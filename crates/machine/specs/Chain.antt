@@ -6,6 +6,7 @@ use Rattle.vm_types.specs.declared.command.Command.{Command}
 use Rattle.vm_types.specs.declared.reply.Reply.{Reply}
 use Rattle.vm_types.specs.Prefix.{Event, IsPrefixHolding}
 use Rattle.vm_types.specs.State.{State, IsRunning}
+use Rattle.msync.specs.Shows.{SaysMost}
 use Rattle.machine.specs.Engine.{StandsForSome}
 use Rattle.machine.specs.declared.machine.Machine.{Machine}
 use Rattle.machine.specs.Machine.{store_of, KeepsSizes, IsCausedBetween, Shows, Meets}
@@ -51,8 +52,16 @@ module _ {D E : Type 0} (g : Ghosts D) (h : Ghosts E) where
       → g.left_since (store_of new) (g.moment (store_of (after old s commands replies events new t chain k))) image
       → StandsForSome (g.sector_count (store_of old)) s.files (IsPrefixHolding s.durable events k) image
 
+  -- It says as many pages of an msync as the state.
+  abbrev pub LeavesMost : (old : Machine D E) (s : State) (commands : List Command) (replies : List Reply) (events : List Event) (new : Machine D E) (t : State)
+      → Chain old s commands replies events new t → Type 0
+  LeavesMost old s commands replies events new t chain =
+      (k : ℕ) (image : Image)
+      → g.left_since (store_of new) (g.moment (store_of (after old s commands replies events new t chain k))) image
+      → SaysMost (g.sector_count (store_of old)) s.most image
+
   -- The replies are those of the flat model, there are as many frames and slots as there were and the mode is the same, and what a stop leaves
-  -- is what some of the msyncs left.
+  -- is what some of the msyncs left, with as many pages of an msync.
   pub record Runs (old new : Machine D E) (commands : List Command) (replies : List Reply) (s : State) : Type 0 where
     pub last : State
     pub events : List Event
@@ -60,3 +69,4 @@ module _ {D E : Type 0} (g : Ghosts D) (h : Ghosts E) where
     pub shows : Shows g h new last
     pub room : KeepsSizes old new
     pub prefixes : IsRunning s → g.keeps_model (store_of new) → LeavesPrefixes old s commands replies events new last chain
+    pub most : g.keeps_model (store_of new) → LeavesMost old s commands replies events new last chain

@@ -11,7 +11,7 @@ use Rattle.residency.specs.Picture.{picture_of}
 use Rattle.residency.specs.Shows.{ShowsPages}
 use Rattle.fault.specs.Changes.{KeepsRoom}
 use Rattle.ranges.specs.Steps.{KeepsDevices}
-use Rattle.msync.specs.Shows.{HasSyncRoom, IsSoundCore}
+use Rattle.msync.specs.Shows.{HasSyncRoom, IsSoundCore, SaysMost}
 use Rattle.spaces.specs.Calls as Calls
 use Rattle.spaces.specs.Idle.{is_idle}
 use Rattle.vm_types.specs.declared.command.Command.{Command}
@@ -71,7 +71,7 @@ module _ {M : Type 0} {levels : Levels.Ghosts M} {D E : Type 0} (g : Ghosts D) (
     pub going : m.halted ≡ false → IsSoundCore g h m.core
 
   -- The engine is in that state: its memory shows it, its room is that for an msync, and every image that a stop may leave now shows it,
-  -- too.
+  -- too, with as many pages of an msync.
   pub record EngineShows (m : Engine D E M levels) (s : State) : Type 0 where
     pub pages : ShowsPages (picture_of m.core) s
     pub running : is_some s.ends ≡ m.halted
@@ -79,9 +79,10 @@ module _ {M : Type 0} {levels : Levels.Ghosts M} {D E : Type 0} (g : Ghosts D) (
     pub most : s.most ≡ m.sync_room.most
     pub stands : g.keeps_model (disk_of m.core.store)
         → LeavesNow g (disk_of m.core.store) (StandsForSome (g.sector_count (disk_of m.core.store)) s.files (MayStand s))
+    pub most_stands : g.keeps_model (disk_of m.core.store) → LeavesNow g (disk_of m.core.store) (SaysMost (g.sector_count (disk_of m.core.store)) s.most)
 
   -- A command was carried out: as the flat model does, stalled for want of memory only where that is short, with as many frames and
-  -- slots as there were, and with nothing else durable at any moment.
+  -- slots as there were, and with nothing else durable at any moment, nor another number of pages of an msync.
   pub record EngineMeets (old new : Engine D E M levels) (s t : State) (command : Command) (reply : Reply) : Type 0 where
     pub step : Step (Calls.causes g h old.core new.core) s command reply t
     pub shows : EngineShows new t
@@ -94,6 +95,7 @@ module _ {M : Type 0} {levels : Levels.Ghosts M} {D E : Type 0} (g : Ghosts D) (
     pub idle : is_idle s command reply ≡ true → KeepsDevices old.core new.core
     pub moments : g.keeps_model (disk_of new.core.store)
         → LeavesOnly g (disk_of old.core.store) (disk_of new.core.store) (StandsForSome (g.sector_count (disk_of old.core.store)) s.files (HoldsIn s command reply))
+    pub most_moments : g.keeps_model (disk_of new.core.store) → LeavesOnly g (disk_of old.core.store) (disk_of new.core.store) (SaysMost (g.sector_count (disk_of old.core.store)) s.most)
 
   -- The premise of a command's contract: a device that it reads keeps its model.
   pub record EngineMayRead (m : Engine D E M levels) (s : State) (command : Command) : Type 0 where

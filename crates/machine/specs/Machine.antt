@@ -96,12 +96,12 @@ module _ {D E : Type 0} (g : Ghosts D) (h : Ghosts E) where
   abbrev pub IsSoundMachine : Machine D E → Type 0
   IsSoundMachine m = InMode (λ M levels engine. IsSoundEngine g h engine) m
 
-  -- The machine is in that state: its memory shows it, and so does every image that a stop may leave now.
+  -- The machine is in that state: its memory shows it, and so does every image that a stop may leave now, with as many pages of an msync.
   abbrev pub Shows : Machine D E → State → Type 0
   Shows m s = InMode (λ M levels engine. EngineShows g h engine s) m
 
   -- A command was carried out: as the flat model does, stalled for want of memory only where that is short, with as many frames and
-  -- slots as there were, in the same mode, and with nothing else durable at any moment.
+  -- slots as there were, in the same mode, and with nothing else durable at any moment, nor another number of pages of an msync.
   abbrev pub Meets : Machine D E → Machine D E → State → State → Command → Reply → Type 0
   Meets old new s t command reply = InSameMode (λ M levels before after. EngineMeets g h before after s t command reply) old new
 

@@ -3,7 +3,7 @@ use Rattle.std.specs.Prelude.{ℕ, ◌≡◌, ◌<◌, ◌≤◌, ◌⊎◌}
 use Rattle.disk_model.specs.Moments.{Touches, AsksOnly, Nothing, LeavesNow}
 use Rattle.disk_model.specs.declared.sector_disk.SectorDisk.{Ghosts}
 use Rattle.file_store.specs.Standing.{AreBounded}
-use Rattle.stores.specs.Images.{most_pages, StandsAs, IsBadLayout, IsBadJournal, IsOutside}
+use Rattle.stores.specs.Images.{most_pages, SaysMostOf, StandsAs, IsBadLayout, IsBadJournal, IsOutside}
 use Rattle.stores.specs.Store.{disk_of, kept_of, files_of, always_free_in, HasRoom, IsReadyStore}
 use Rattle.stores.specs.declared.store.Store.{Store}
 use Rattle.machine.specs.declared.boot.BootFault.{BootFault}
@@ -20,7 +20,7 @@ module _ {D : Type 0} (g : Ghosts D) where
     -- no sector is asked for but those that a boot asks for, what lies outside is as it was,
     pub asks : g.keeps_model new → AsksOnly g (IsAskedToBoot (g.sector_count entry) (g.content entry)) entry new
     pub outside : g.keeps_model new → (k : ℕ) → IsOutside (g.sector_count entry) (g.content entry) k → g.content new k ≡ g.content entry k
-    -- and what a stop leaves meanwhile stands for what the store did.
+    -- and what a stop leaves meanwhile stands for what the store did, with as many pages of an msync.
     pub leaves : BootLeaves g entry new
 
   -- The store on a device is opened for a machine:
@@ -31,10 +31,11 @@ module _ {D : Type 0} (g : Ghosts D) where
     pub ready : IsReadyStore g store
     pub room : HasRoom (kept_of store)
     pub bounded : AreBounded (files_of store)
-    -- its image was that of a store, stands for what it did, from now on, and says how many pages every commit may take;
+    -- its image was that of a store, stands for what it did, from now on, and says so of as many pages as it did, which every commit may take;
     pub layout : g.keeps_model (disk_of store) → IsBadLayout (g.sector_count entry) (g.content entry) → ⊥
     pub journal : g.keeps_model (disk_of store) → IsBadJournal (g.sector_count entry) (g.content entry) → ⊥
     pub now : g.keeps_model (disk_of store) → LeavesNow g (disk_of store) (StandsAs (g.sector_count entry) (g.content entry))
+    pub most_now : g.keeps_model (disk_of store) → LeavesNow g (disk_of store) (SaysMostOf (g.sector_count entry) (g.content entry))
     pub most : g.keeps_model (disk_of store) → always_free_in (kept_of store) ≡ most_pages (g.sector_count entry) (g.content entry)
     -- and the device did not fail.
     pub calm : g.failures (disk_of store) ≡ g.failures entry

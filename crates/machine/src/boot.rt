@@ -136,7 +136,7 @@ fn open_store<D: SectorDisk>(alloc: Global, disk: D) -> Result<Store<D>, (BootFa
         Ok(store) => store,
         Err((fault, disk)) => return Err((BootFault::from(fault), disk)),
     };
-    match store.make_room() {
+    match store.make_room_for(store.always_free_pages()) {
         Ok(()) => Ok(store),
         Err(DiskFault) => Err((BootFault::Device, store.into_disk())),
     }

@@ -138,7 +138,7 @@ impl<D: SectorDisk, E: SectorDisk + Drop> Machine<D, E> {
     /// Starts a machine over a store as a stop left it, or as whoever had it last in this program, who may have left writes
     /// unsynced: opens it, recovering it, and takes all memory that the machine will ever need. The sizes are looked at
     /// before the store is asked. An msync of the machine takes at most as many pages as the store always takes at once: of
-    /// layouts 2 and 3 1,023, of layout 4 504 for each block of the pool's maps.
+    /// layout 2 1,023, of layout 4 504 for each block of the pool's maps.
     ///
     /// `Frames`, `Slots`, `BadLayout` and `BadJournal` come exactly where their texts say, unless another one
     /// comes first; `Device` exactly where the store device failed in this call. Each fault hands the store back.

@@ -8,7 +8,6 @@ use runner::Devices;
 use std::fmt::Debug;
 use std::process::Abort;
 use stores::{NewStore, format};
-use sync_journal::Journals;
 use vm_types::{
     Code, Command, Errno, Fault, MapSource, Mode, MsyncMode, Pid, Placing, Prot, Reply,
     StoredValue, Width,
@@ -275,7 +274,7 @@ pub(crate) fn image(rt: &(impl AllocGlobal + Abort), contents: Contents) -> SimD
     }];
     let made = match contents {
         Contents::Nothing => Ok(()),
-        Contents::Store => format(&mut disk, NewStore::Journals(Journals::Single), &mut files),
+        Contents::Store => format(&mut disk, NewStore::Journal, &mut files),
     };
     made.expect(rt, "a store");
     left(rt, &disk, &[])

@@ -9,7 +9,6 @@ use file_store::{FileSource, format};
 use machine::{Config, Machine};
 use std::alloc::Global;
 use std::test::Fail;
-use sync_journal::Journals;
 use vm_types::{Command, MapSource, Mode, MsyncMode, Placing, Prot, Reply, StoredValue, Width};
 
 /// Maps the page of the file in a new process.
@@ -70,7 +69,7 @@ fn formatted(alloc: Global) -> Result<SimDisk, Fail> {
         length: 4096,
         bytes: None,
     }];
-    format(&mut disk, Journals::Single, &mut files)?;
+    format(&mut disk, &mut files)?;
     Ok(disk)
 }
 

@@ -9,7 +9,7 @@ use flat_model::Flat;
 use machine::{Config, Machine};
 use std::alloc::Global;
 use std::test::Fail;
-use sync_journal::{Journals, PAGE_LIMIT};
+use sync_journal::PAGE_LIMIT;
 use vm_types::{Command, Mode, Reply, Stall};
 
 /// Commands of a run.
@@ -23,7 +23,7 @@ fn image(alloc: Global) -> Result<SimDisk, Fail> {
         length: 4096 * FILE_PAGES,
         bytes: None,
     }];
-    format(&mut disk, Journals::Single, &mut files)?;
+    format(&mut disk, &mut files)?;
     Ok(disk)
 }
 

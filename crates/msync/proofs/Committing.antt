@@ -6,10 +6,10 @@ use Rattle.msync.proofs.Names.{Store, ArePages, Changes, StandsForEither, cut_pa
 use Rattle.msync.proofs.Names.{FileInfo, FilePage, ObjectPage, PageKey, File, Object, SlotNo, EIO, SwapDevice, Reply, Done, Refused, Files, inside_of, cut, trimmed, touched_in, committed, synced, State, msync_outcome, commit_of, commits}
 use Rattle.msync.{proofs.{Names.{Pages, Core, InFrame, Picture, picture_of, entry, held, is_private, IsFit, ShowsPages}, SettledPages.{one_file, held_spot, cases_listed}}, specs.Choice.{Chosen, chosen_page, first_page, ListsTouched}}
 use Rattle.msync.specs.{Choice.{TakesSame, IsListedPage, IsAway}, Core.{KeepsMemory, IsEnd, Acknowledged, Failed, Unread, Commits}, Settling.{settled_place, settled_in, Settles, LosesDirtyOnly, ComesHome, SettlesMemory, SettlesPlaces}}
-use Rattle.msync.specs.{Shows.{IsSoundCore, CoreShows}, Spots.{spot_at, place_at, bytes_there, IsSlotted, HasSlot, AreSpots, HasSpots}, declared.chosen.{Residence.{Residence, TheVariants.{Framed, Slotted}}, Spot.{Spot}}}
+use Rattle.msync.specs.{Shows.{IsSoundCore, CoreShows, SaysMost}, Spots.{spot_at, place_at, bytes_there, IsSlotted, HasSlot, AreSpots, HasSpots}, declared.chosen.{Residence.{Residence, TheVariants.{Framed, Slotted}}, Spot.{Spot}}}
 use Rattle.{vm_types.specs.declared.reply.Reply.TheVariants.{Stalled}, file_store.specs.Layout.{padded_page as store_trimmed}}
 use Rattle.vm_types.specs.Msync as Flat
-use Rattle.msync.proofs.Names.{StoreKept, OfJournals, OfPool, files_in, least_in, free_in, always_free_in, HasRoom, directory_of, disk_of, kept_of}
+use Rattle.msync.proofs.Names.{StoreKept, SaysMostOf, Image, weaker, files_in, free_in, always_free_in, HasRoom, directory_of, disk_of, kept_of}
 
 -- what stands at a place of a list
 some_get : (xs : List FilePage) (i : ℕ) (p : FilePage) → slice_get xs i ≡ Some p → (i < length xs) × (p ≡ chosen_page xs i)
@@ -38,18 +38,13 @@ front_once c chosen listed i j less high e =
 pub front_few : {mode : ℕ} (c : Picture mode) (chosen : Chosen) (room : ℕ) → IsListedPage c chosen → chosen.count ≤ room → length (take chosen.count chosen.list) ≤ room
 front_few c chosen room listed few = omega (arith, front_length chosen listed.few, few)
 
--- every store takes a commit of one page
-pub least_one : (kept : StoreKept) → least_in kept ≤ 1
-least_one (OfJournals directory journal) = omega arith
-least_one (OfPool directory journal) = omega arith
-
 -- so they may be committed where there is room
-pub are_pages : {mode : ℕ} (c : Picture mode) (chosen : Chosen) (least most : ℕ) → least ≤ 1 → chosen.count ≤ most → IsFit c → IsListedPage c chosen
-    → ArePages c.files least most (take chosen.count chosen.list)
-are_pages c chosen least most one room fit listed =
+pub are_pages : {mode : ℕ} (c : Picture mode) (chosen : Chosen) (most : ℕ) → chosen.count ≤ most → IsFit c → IsListedPage c chosen
+    → ArePages c.files most (take chosen.count chosen.list)
+are_pages c chosen most room fit listed =
     let front = take chosen.count chosen.list in
     record {
-      some = omega (arith, front_length chosen listed.few, listed.some, one);
+      some = omega (arith, front_length chosen listed.few, listed.some);
       few = front_few c chosen most listed room;
       inside = λ i p e.
           let r = some_get front i p e in
@@ -318,11 +313,23 @@ module _ {D : Type 0} (g : Ghosts D) where
     pub size : g.sector_count (disk_of new) ≡ g.sector_count (disk_of old)
     pub kept : g.keeps_model (disk_of new) → g.keeps_model (disk_of old)
     pub either : g.keeps_model (disk_of new) → model → LeavesNow g (disk_of old) (StandsFor n files before) → LeavesOnly g (disk_of old) (disk_of new) (StandsForEither n files before after)
+    pub most_moment : g.keeps_model (disk_of new) → LeavesOnly g (disk_of old) (disk_of new) (SaysMostOf n (g.content (disk_of old)))
+    pub most_now : g.keeps_model (disk_of new) → LeavesNow g (disk_of new) (SaysMostOf n (g.content (disk_of old)))
 
 module _ {M : Type 0} {m : Levels.Ghosts M} {D E : Type 0} (g : Ghosts D) (h : Ghosts E) where
   module _ (model : Type 0) (old new : Core D E M m) (s : State) (after : Pages) (pid addr len : ℕ) (mode : MsyncMode) (chosen : Chosen) (shows : CoreShows g old s)
       (same : TakesSame s pid addr len mode chosen) (takes : commits s (Msync pid addr len mode) ≡ Some after)
       (store : StoreCommits g model (g.sector_count (disk_of old.store)) s.files s.durable (committed s pid same.first same.count s.durable) old.store new.store) where
+    abbrev n : ℕ
+    n = g.sector_count (disk_of old.store)
+
+    -- what says the pages of an msync that the old image says says those of the state
+    says_most : g.keeps_model (disk_of new.store) → (c : Image) → SaysMostOf n (g.content (disk_of old.store)) c → SaysMost n s.most c
+    says_most k c says = says ∙ shows.most_stands (store.kept k) (g.content (disk_of old.store)) (record { kept = λ i. inr refl })
+
+    most_stands : g.keeps_model (disk_of new.store) → LeavesNow g (disk_of new.store) (SaysMost (g.sector_count (disk_of new.store)) s.most)
+    most_stands k c may = subst (λ (x : ℕ). SaysMost x s.most c) (sym store.size) (says_most k c (store.most_now k c may))
+
     -- a commit that came to some end
     commit_ended : (reply : Reply) → IsEnd g h model old new s (Msync pid addr len mode) reply → Commits g h model old new s after (Msync pid addr len mode) reply
     commit_ended reply end =
@@ -332,6 +339,7 @@ module _ {M : Type 0} {m : Levels.Ghosts M} {D E : Type 0} (g : Ghosts D) (h : G
           size = store.size;
           kept = store.kept;
           either = λ k m. store.either k m (shows.stands (store.kept k));
+          most_moments = λ k. weaker g (disk_of old.store) (disk_of new.store) (SaysMostOf n (g.content (disk_of old.store))) (SaysMost n s.most) (says_most k) (store.most_moment k);
         } in
         subst (λ (x : Pages). Commits g h model old new s x (Msync pid addr len mode) reply) (after_is s after pid addr len mode chosen same takes) done
 
@@ -346,6 +354,7 @@ module _ {M : Type 0} {m : Levels.Ghosts M} {D E : Type 0} (g : Ghosts D) (h : G
           pages = pages;
           most = shows.most ∙ sym store.always;
           stands = λ k c may. subst (λ (x : ℕ). StandsFor x s.files t.durable c) (sym store.size) (ok k m (shows.stands (store.kept k)) c may);
+          most_stands = most_stands;
         } in
         commit_ended Done (Acknowledged refl (subst (λ (x : State). ShowsPages (picture_of new) x) t_is pages) (subst (λ (x : State). model → CoreShows g new x) t_is now) sound)
 
@@ -363,6 +372,7 @@ module _ {M : Type 0} {m : Levels.Ghosts M} {D E : Type 0} (g : Ghosts D) (h : G
           pages = pages;
           most = shows.most ∙ sym store.always;
           stands = λ k c may. subst (λ (x : ℕ). StandsFor x s.files s.durable c) (sym store.size) (now k (shows.stands (store.kept k)) c may);
+          most_stands = most_stands;
         } in
         commit_ended (Stalled SwapDevice) (Unread refl grew memory still sound (λ k. moments k (shows.stands (store.kept k))))
 

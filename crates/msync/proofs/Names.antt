@@ -1,8 +1,8 @@
 -- What the proofs of this crate cite of the crates below it and of the standard library: `use Rattle.msync.proofs.Names.{..}`.
-pub use Rattle.{swap.{proofs.Counting.{one_less}, specs.{Slots.{IsSectorOfSlot, slots_of, SlotTable, IsReady, or_none, IsInUse}, Written.{IsAsWritten, written_in}, declared.slots.Swap.{Swap}}}, disk_model.proofs.Moments.{asks_wider}}
-pub use Rattle.{disk_model.specs.{Moments.{AsksOnly, LeavesNow, LeavesOnly}, declared.sector_disk.SectorDisk.{Ghosts}}, file_store.{proofs.Causes.{on_err}, specs.Commit.{cut_page, Changes}}}
-pub use Rattle.stores.specs.{Commit.{ArePages}, Images.{StandsFor, StandsForEither}, Store.{AnyDirectory, StoreKept, StoreKept.{OfJournals, OfPool}, files_in, least_in, free_in, always_free_in, HasRoom}}
-pub use Rattle.{stores.specs.{Store.{disk_of, kept_of, directory_of, files_of, least_of, free_of, IsUsedIn, IsReadyStore}, declared.store.Store.{Store}}, file_store.specs.{Standing.{IsPageOf}, Store.{entry_of}}}
+pub use Rattle.{swap.{proofs.Counting.{one_less}, specs.{Slots.{IsSectorOfSlot, slots_of, SlotTable, IsReady, or_none, IsInUse}, Written.{IsAsWritten, written_in}, declared.slots.Swap.{Swap}}}, disk_model.proofs.Moments.{asks_wider, holds_now, weaker}}
+pub use Rattle.{disk_model.specs.{Moments.{AsksOnly, LeavesNow, LeavesOnly}, Stop.{Image}, declared.sector_disk.SectorDisk.{Ghosts}}, file_store.{proofs.Causes.{on_err}, specs.Commit.{cut_page, Changes}}}
+pub use Rattle.stores.specs.{Commit.{ArePages}, Images.{StandsFor, StandsForEither, SaysMostOf}, Store.{AnyDirectory, StoreKept, StoreKept.{OfJournal, OfPool}, files_in, free_in, always_free_in, HasRoom}}
+pub use Rattle.{stores.specs.{Store.{disk_of, kept_of, directory_of, files_of, free_of, IsUsedIn, IsReadyStore}, declared.store.Store.{Store}}, file_store.specs.{Standing.{IsPageOf}, Store.{entry_of}}}
 pub use Rattle.{file_store.specs.declared.directory.{Directory.{Directory}, Entry.{Entry}}, directories.specs.declared.entry.Entry.{Entry as PoolEntry}}
 pub use Rattle.pool_store.specs.{Files.{info_of}, Store.{entry_of as pool_entry_of}, declared.directory.Directory.{Directory as PoolDirectory}}
 pub use Rattle.frames.{proofs.FrameLemmas.{with_bytes-others, with_bytes-same, IsHeld-not_zero, IsHeld-above, IsSound-step}, specs.FrameTable.{FrameTable, frame_count, role_of, IsFrame, with_bytes, bytes_of, IsSound, is_handed_out, IsHeld}}

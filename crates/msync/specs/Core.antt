@@ -17,7 +17,7 @@ use Rattle.residency.specs.declared.kernel.Core.{Core}
 use Rattle.residency.specs.Picture.{picture_of}
 use Rattle.residency.specs.Shows.{ShowsPages}
 use Rattle.msync.specs.Choice.{TakesAway}
-use Rattle.msync.specs.Shows.{IsSoundCore, CoreShows}
+use Rattle.msync.specs.Shows.{IsSoundCore, CoreShows, SaysMost}
 use Rattle.stores.specs.Store.{directory_of, disk_of}
 
 module _ {M : Type 0} {m : Levels.Ghosts M} {D E : Type 0} where
@@ -49,7 +49,7 @@ module _ {M : Type 0} {m : Levels.Ghosts M} {D E : Type 0} (g : Ghosts D) (h : G
         → IsEnd given_back old new s command reply
 
   -- What an msync that makes pages durable comes to: at every moment a stop leaves the files as they were, or with all of
-  -- those pages, as long as slots gave back what was put.
+  -- those pages, as long as slots gave back what was put, and an msync may take as many pages as before.
   pub record Commits (given_back : Type 0) (old new : Core D E M m) (s : State) (after : Pages) (command : Command) (reply : Reply) : Type 0 where
     pub end : IsEnd given_back old new s command reply
     pub directory : directory_of new.store ≡ directory_of old.store
@@ -57,3 +57,4 @@ module _ {M : Type 0} {m : Levels.Ghosts M} {D E : Type 0} (g : Ghosts D) (h : G
     pub kept : g.keeps_model (disk_of new.store) → g.keeps_model (disk_of old.store)
     pub either : g.keeps_model (disk_of new.store) → given_back
         → LeavesOnly g (disk_of old.store) (disk_of new.store) (StandsForEither (g.sector_count (disk_of old.store)) s.files s.durable after)
+    pub most_moments : g.keeps_model (disk_of new.store) → LeavesOnly g (disk_of old.store) (disk_of new.store) (SaysMost (g.sector_count (disk_of old.store)) s.most)

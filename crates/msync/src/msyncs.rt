@@ -28,7 +28,7 @@ use vm_types::{Answer, Errno, FilePage, Levels, PageKey, Stall};
 /// asked; else the store for its journal and the homes of pages that leave it alone, and swap for the slots of those pages alone.
 ///
 /// `ESRCH` where no such process lives, `EINVAL` where `addr` is no multiple of 4,096, `ENOMEM` where a page of the range
-/// isn't mapped, `ENOSPC` where there are more such pages than the store always takes at once: 1,023 of layouts 2 and 3, and of
+/// isn't mapped, `ENOSPC` where there are more such pages than the store always takes at once: 1,023 of layout 2, and of
 /// layout 4 as many as a body of its pool has slots; nothing is changed then. `EIO` comes exactly where the store failed in this
 /// call, which then isn't to be called again; memory is as it was. `SwapDevice` comes exactly where a slot that one of those
 /// pages lies in could not be read: nothing has become durable then, memory is as it was, and the call may be made again.

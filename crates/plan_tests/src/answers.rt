@@ -1,9 +1,10 @@
 //! What is refused, and how long plans are.
-use super::client::{Client, carry_out, equal, expect, lent_of, made, new_store, rows_of, zeros};
+use super::client::{
+    Client, Request, carry_out, equal, expect, lent_of, made, new_store, rows_of, zeros,
+};
 use std::process::Abort;
 use stores::NewStore;
-use sync_journal::Journals;
-use sync_plans::{PageUpdates, Refusal};
+use sync_plans::Refusal;
 use vm_types::FilePage;
 
 const FIRST: FilePage = FilePage { file: 0, page: 0 };
@@ -11,9 +12,11 @@ const FIRST: FilePage = FilePage { file: 0, page: 0 };
 #[test]
 fn no_store_and_bad_pages_are_refused(rt: HostRuntime) {
     let mut client = Client::new(&rt);
-    equal(&rt, client.ask(&[], None), Err(Refusal::BadLayout));
+    for request in [Request::Open, Request::Tidy] {
+        equal(&rt, client.ask(&[], request), Err(Refusal::BadLayout));
+    }
     let lent = lent_of(&rt, &[[9; 4096]; 2]);
-    for store in [NewStore::Journals(Journals::Single), NewStore::Pool(1)] {
+    for store in [NewStore::Journal, NewStore::Pool(1)] {
         let image = rows_of(&rt, &new_store(&rt, store));
         for (file, page, wanted) in [
             (0, 2, Refusal::BadPages),
@@ -21,12 +24,9 @@ fn no_store_and_bad_pages_are_refused(rt: HostRuntime) {
             (3, 0, Refusal::BadPages),
             (1, 0, Refusal::ReadOnly),
         ] {
-            let updates = PageUpdates {
-                pages: &[FIRST, FilePage { file, page }],
-                bytes: lent.as_slice(),
-            };
-            let answer = client.ask(image.as_slice(), Some(updates));
-            equal(&rt, answer, Err(wanted));
+            let pages = [FIRST, FilePage { file, page }];
+            let request = Request::Commit(&pages, lent.as_slice());
+            equal(&rt, client.ask(image.as_slice(), request), Err(wanted));
         }
     }
 }
@@ -44,12 +44,8 @@ fn the_shortest_list_is_the_room(rt: HostRuntime) {
         ([13, 13], [13, 0], Err(Refusal::Device)),
     ] {
         let mut client = Client::with_room(&rt, [scratch, plan]);
-        let updates = PageUpdates {
-            pages: &[FIRST],
-            bytes: lent.as_slice(),
-        };
-        let answer = client.ask(image.as_slice(), Some(updates));
-        equal(&rt, answer, wanted);
+        let request = Request::Commit(&[FIRST], lent.as_slice());
+        equal(&rt, client.ask(image.as_slice(), request), wanted);
     }
 }
 
@@ -57,7 +53,7 @@ fn the_shortest_list_is_the_room(rt: HostRuntime) {
 #[test]
 fn the_largest_plan_of_a_journal_is_short(rt: HostRuntime) {
     let mut files = [zeros(1023 * 4096, false)];
-    let mut disk = made(&rt, NewStore::Journals(Journals::Single), &mut files);
+    let mut disk = made(&rt, NewStore::Journal, &mut files);
     let mut client = Client::new(&rt);
     let mut pages = Vec::new(rt.alloc());
     for page in 0..1023 {
@@ -67,11 +63,8 @@ fn the_largest_plan_of_a_journal_is_short(rt: HostRuntime) {
     let lent = lent_of(&rt, bytes.as_slice());
     for calls in [1034, 2060] {
         let image = rows_of(&rt, &disk);
-        let updates = PageUpdates {
-            pages: pages.as_slice(),
-            bytes: lent.as_slice(),
-        };
-        equal(&rt, client.ask(image.as_slice(), Some(updates)), Ok(calls));
+        let request = Request::Commit(pages.as_slice(), lent.as_slice());
+        equal(&rt, client.ask(image.as_slice(), request), Ok(calls));
         let is_done = carry_out(&mut disk, &client.plan, lent.as_slice(), 0, calls);
         expect(&rt, is_done, "a plan that can't be carried out");
     }

@@ -8,7 +8,7 @@ use std::fmt::Debug;
 use std::process::Abort;
 use stores::{NewStore, format, image_bytes};
 use sync_plans::{
-    Call, PageBytes, PageUpdates, Refusal, Scratch, file_facts, plan_commit, plan_open,
+    Call, PageBytes, PageUpdates, Refusal, Scratch, file_facts, plan_commit, plan_open, plan_tidy,
 };
 use vm_types::FilePage;
 
@@ -172,6 +172,17 @@ fn copy_page(disk: &mut SimDisk, from: u64, to: u64) -> bool {
     disk.read_page(from, &mut page).is_ok() && write_page(disk, to, &page)
 }
 
+/// What is asked of an image.
+#[derive(Clone, Copy)]
+pub(crate) enum Request<'a> {
+    /// That it is opened.
+    Open,
+    /// That all its pages are brought home.
+    Tidy,
+    /// That these pages become these, of which there are as many.
+    Commit(&'a [FilePage], &'a [PageBytes<'a>]),
+}
+
 /// Room for plans.
 #[derive(Drop)]
 pub(crate) struct Client {
@@ -198,21 +209,23 @@ impl Client {
         }
     }
 
-    /// Plans an opening, or the commit of these pages, and returns how many calls it has.
+    /// Plans what is asked, and returns how many calls the plan has.
     pub(crate) fn ask(
         &mut self,
         image: &[[u8; 512]],
-        updates: Option<PageUpdates<'_>>,
+        request: Request<'_>,
     ) -> Result<usize, Refusal> {
         let scratch = self.scratch.lent();
         let calls = self.plan.calls.as_mut_slice();
         let rows = self.plan.rows.as_mut_slice();
-        self.plan.used = match updates {
-            Some(updates) if updates.pages.len() == updates.bytes.len() => {
+        self.plan.used = match request {
+            Request::Open => plan_open(self.alloc, image, scratch, calls, rows)?,
+            Request::Tidy => plan_tidy(self.alloc, image, scratch, calls, rows)?,
+            Request::Commit(pages, bytes) if pages.len() == bytes.len() => {
+                let updates = PageUpdates { pages, bytes };
                 plan_commit(self.alloc, image, scratch, calls, rows, updates)?
             }
-            Some(_) => return Err(Refusal::Device),
-            None => plan_open(self.alloc, image, scratch, calls, rows)?,
+            Request::Commit(..) => return Err(Refusal::Device),
         };
         Ok(self.plan.used)
     }
@@ -248,7 +261,8 @@ impl Client {
         disk: &mut SimDisk,
     ) -> [u8; 4] {
         let image = rows_of(rt, disk);
-        let calls = self.ask(image.as_slice(), None).expect(rt, "a store");
+        let calls = self.ask(image.as_slice(), Request::Open);
+        let calls = calls.expect(rt, "a store");
         let is_open = carry_out(disk, &self.plan, &[], 0, calls);
         expect(rt, is_open, "an opening that can't be carried out");
         let image = rows_of(rt, disk);

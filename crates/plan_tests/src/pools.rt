@@ -1,11 +1,11 @@
-//! Plans of commits of many pages, for stores of layout 4.
+//! Plans of commits of many pages, and of homes at idle, for stores of layout 4.
 ghost use Rattle.directories.specs.Kinds.{IsMapSize};
 
-use super::client::{Client, carry_out, equal, expect, lent_of, made, rows_of, zeros};
+use super::client::{Client, Request, carry_out, equal, expect, lent_of, made, rows_of, zeros};
 use disk_model::SimDisk;
 use std::process::Abort;
 use stores::NewStore;
-use sync_plans::PageUpdates;
+use sync_plans::{PageBytes, Refusal};
 use vm_types::FilePage;
 
 /// How many pages the file has. It ends with the last of them.
@@ -39,26 +39,34 @@ impl Bench {
         wanted: [usize; 4],
     ) {
         let lent = lent_of(rt, bytes);
+        let request = Request::Commit(pages, lent.as_slice());
+        self.carry(rt, request, lent.as_slice(), wanted);
+    }
+
+    /// Plans what is asked, for which these pages are lent, and carries it out.
+    fn carry(
+        &mut self,
+        rt: &(impl AllocGlobal + Abort),
+        request: Request<'_>,
+        lent: &[PageBytes<'_>],
+        wanted: [usize; 4],
+    ) {
         let image = rows_of(rt, &self.disk);
-        let updates = PageUpdates {
-            pages,
-            bytes: lent.as_slice(),
-        };
-        let answer = self.client.ask(image.as_slice(), Some(updates));
+        let answer = self.client.ask(image.as_slice(), request);
         let plan = &self.client.plan;
         equal(rt, (answer, plan.counts()), (Ok(plan.used), wanted));
-        let is_done = carry_out(&mut self.disk, plan, lent.as_slice(), 0, plan.used);
-        expect(rt, is_done, "a commit that can't be carried out");
+        let is_done = carry_out(&mut self.disk, plan, lent, 0, plan.used);
+        expect(rt, is_done, "a plan that can't be carried out");
     }
 
     /// Plans an opening, and carries it out.
     fn open(&mut self, rt: &(impl AllocGlobal + Abort), wanted: [usize; 4]) {
-        let image = rows_of(rt, &self.disk);
-        let answer = self.client.ask(image.as_slice(), None);
-        let plan = &self.client.plan;
-        equal(rt, (answer, plan.counts()), (Ok(plan.used), wanted));
-        let is_done = carry_out(&mut self.disk, plan, &[], 0, plan.used);
-        expect(rt, is_done, "an opening that can't be carried out");
+        self.carry(rt, Request::Open, &[], wanted);
+    }
+
+    /// Plans that all pages are brought home, and carries it out.
+    fn tidy(&mut self, rt: &(impl AllocGlobal + Abort), wanted: [usize; 4]) {
+        self.carry(rt, Request::Tidy, &[], wanted);
     }
 
     /// The byte that fills a page.
@@ -75,6 +83,16 @@ fn first_pages(rt: &(impl AllocGlobal + Abort), count: u32) -> Vec<FilePage> {
     let mut pages = Vec::new(rt.alloc());
     for page in 0..count {
         pages.push(FilePage { file: 0, page }).expect(rt, "memory");
+    }
+    pages
+}
+
+/// So many pages of this byte, but that each third one, from the second on, is of the byte 1.
+fn pages_of(rt: &(impl AllocGlobal + Abort), byte: u8, count: u32) -> Vec<[u8; 4096]> {
+    let mut pages = Vec::new(rt.alloc());
+    for page in 0..count {
+        let byte = if page % 3 == 1 { 1 } else { byte };
+        pages.push([byte; 4096]).expect(rt, "memory");
     }
     pages
 }
@@ -123,4 +141,42 @@ fn pages_go_home_in_a_call_each(rt: HostRuntime) {
     for (page, byte) in [(0, 0), (1, 6), (2, 7), (999, 7), (1000, 0)] {
         equal(&rt, bench.byte_of(&rt, page), Some(byte));
     }
+}
+
+// It copies each page, and writes a map, in which no page has a slot, and the gate.
+#[test]
+fn a_tidy_brings_all_pages_home_in_two_syncs(rt: HostRuntime) {
+    let mut bench = Bench::new(&rt, 1);
+    bench.tidy(&rt, [0; 4]);
+    let pages = first_pages(&rt, 3);
+    let bytes = [[1; 4096], [2; 4096], [3; 4096]];
+    bench.commit(&rt, pages.as_slice(), &bytes, [9, 2, 3, 0]);
+    bench.tidy(&rt, [9, 2, 0, 3]);
+    bench.tidy(&rt, [0; 4]);
+    bench.open(&rt, [0; 4]);
+    for (page, byte) in [(0, 1), (1, 2), (2, 3), (3, 0)] {
+        equal(&rt, bench.byte_of(&rt, page), Some(byte));
+    }
+}
+
+// Maps have one block, and both bodies together 1,008 slots. A commit of as many pages has those of the one before brought home first, in two syncs more.
+// Each page is still lent, though a map was written before.
+#[test]
+fn a_commit_of_all_slots_makes_room_itself(rt: HostRuntime) {
+    let mut bench = Bench::new(&rt, 1);
+    let pages = first_pages(&rt, 1008);
+    for (byte, wanted) in [(7, [9, 2, 1008, 0]), (8, [18, 4, 1008, 1008])] {
+        let bytes = pages_of(&rt, byte, 1008);
+        bench.commit(&rt, pages.as_slice(), bytes.as_slice(), wanted);
+        for (page, byte) in [(0, byte), (1006, 1), (1007, byte), (1008, 0)] {
+            equal(&rt, bench.byte_of(&rt, page), Some(byte));
+        }
+    }
+    let more = first_pages(&rt, 1009);
+    let bytes = pages_of(&rt, 9, 1009);
+    let lent = lent_of(&rt, bytes.as_slice());
+    let image = rows_of(&rt, &bench.disk);
+    let request = Request::Commit(more.as_slice(), lent.as_slice());
+    let answer = bench.client.ask(image.as_slice(), request);
+    equal(&rt, answer, Err(Refusal::BadPages));
 }

@@ -1,12 +1,13 @@
 //! Plans that are stopped before each of their calls, with torn sectors, and opened again.
 ghost use Rattle.stores.specs.NewStores.{IsSizedNew};
 
-use super::client::{Client, PLACES, Plan, carry_out, equal, expect, lent_of, new_store, rows_of};
+use super::client::{
+    Client, PLACES, Plan, Request, carry_out, equal, expect, lent_of, new_store, rows_of,
+};
 use disk_model::SimDisk;
 use std::process::Abort;
 use stores::NewStore;
-use sync_journal::Journals;
-use sync_plans::{PageBytes, PageUpdates};
+use sync_plans::PageBytes;
 
 /// The device after a stop within a plan. What each unsynced sector holds goes by the number: the old bytes, zeros, ones,
 /// or the words that open the gate, half of them or all.
@@ -61,9 +62,9 @@ fn stopped_everywhere(
         }
         let is_made = carry_out(&mut stopped, plan, lent, count, 1);
         expect(rt, is_made, "a call that can't be made");
-        // All of them where the gate is unsynced, which is sector 2, 16 where there are two journals, or 8 where there is a pool.
+        // All of them where the gate is unsynced, which is sector 2, or 8 where there is a pool.
         fillings = match plan.calls.get(count) {
-            Some(call) if call.kind == 1 && [2, 8, 16].contains(&call.sector) => 5,
+            Some(call) if call.kind == 1 && [2, 8].contains(&call.sector) => 5,
             _ => 1,
         };
     }
@@ -87,12 +88,9 @@ fn committed(
     }
     let lent = lent_of(rt, bytes.as_slice());
     let image = rows_of(rt, disk);
-    let updates = PageUpdates {
-        pages: pages.as_slice(),
-        bytes: lent.as_slice(),
-    };
+    let request = Request::Commit(pages.as_slice(), lent.as_slice());
     let mut client = Client::new(rt);
-    let answer = client.ask(image.as_slice(), Some(updates));
+    let answer = client.ask(image.as_slice(), request);
     let plan = &client.plan;
     equal(rt, (answer, plan.counts()), (Ok(plan.used), wanted));
     stopped_everywhere(rt, disk, plan, lent.as_slice(), [before, after]);
@@ -102,19 +100,11 @@ fn committed(
 
 /// Commits, each by what fills the pages after it and by its calls of each kind. First one page, whose bytes past its file's end make
 /// it eight sectors of the body, and the map's, and the gate, with a sync behind each; then three pages of two files, two of them each
-/// in one call. With one journal the home of the page before and the gate come first, with a sync behind each. Of two journals in
-/// turn it is two syncs, whichever is filled, and pages of the commit before go home in one call each, but those that are taken again. Of a pool
-/// it is two syncs too, and no page goes home.
-const SINGLE: &[([u8; 4], [usize; 4])] = &[
+/// in one call. With a journal the home of the page before and the gate come first, with a sync behind each. Of a pool it is two syncs whichever map is
+/// written, and no page goes home.
+const JOURNAL: &[([u8; 4], [usize; 4])] = &[
     ([0, 7, 0, 0], [17, 2, 0, 0]),
     ([5, 6, 0, 8], [18, 4, 2, 1]),
-];
-
-const PAIRED: &[([u8; 4], [usize; 4])] = &[
-    ([0, 7, 0, 0], [17, 2, 0, 0]),
-    ([5, 6, 0, 8], [17, 2, 2, 0]),
-    ([4, 6, 0, 8], [9, 2, 1, 2]),
-    ([4, 6, 0, 9], [9, 2, 1, 1]),
 ];
 
 const POOL: &[([u8; 4], [usize; 4])] = &[
@@ -124,12 +114,12 @@ const POOL: &[([u8; 4], [usize; 4])] = &[
     ([4, 6, 0, 9], [9, 2, 1, 0]),
 ];
 
-/// Stops commits to a new store, and at the end its opening, of so many calls.
+/// Stops commits to a new store, and at the end its opening, and that its pages are brought home, each of so many calls of each kind.
 fn stopped_in_a_row(
     rt: &(impl AllocGlobal + Abort),
     store: NewStore,
     commits: &[([u8; 4], [usize; 4])],
-    calls: usize,
+    calls: [[usize; 4]; 2],
 )
     requires { IsSizedNew store }
 {
@@ -141,21 +131,22 @@ fn stopped_in_a_row(
     }
     let mut client = Client::new(rt);
     let image = rows_of(rt, &disk);
-    equal(rt, client.ask(image.as_slice(), None), Ok(calls));
-    stopped_everywhere(rt, &disk, &client.plan, &[], [files, files]);
+    for (request, wanted) in [(Request::Open, calls[0]), (Request::Tidy, calls[1])] {
+        let answer = client.ask(image.as_slice(), request);
+        let plan = &client.plan;
+        equal(rt, (answer, plan.counts()), (Ok(plan.used), wanted));
+        stopped_everywhere(rt, &disk, plan, &[], [files, files]);
+    }
 }
 
+// An open journal is carried out whichever is asked: three pages, the gate, and a sync behind each of both.
 #[test]
-fn a_plan_for_one_journal_is_whole_or_nothing(rt: HostRuntime) {
-    stopped_in_a_row(&rt, NewStore::Journals(Journals::Single), SINGLE, 6);
-}
-
-#[test]
-fn a_plan_for_two_journals_is_whole_or_nothing(rt: HostRuntime) {
-    stopped_in_a_row(&rt, NewStore::Journals(Journals::Paired), PAIRED, 12);
+fn a_plan_for_a_journal_is_whole_or_nothing(rt: HostRuntime) {
+    stopped_in_a_row(&rt, NewStore::Journal, JOURNAL, [[1, 2, 0, 3]; 2]);
 }
 
 #[test]
 fn a_plan_for_a_pool_is_whole_or_nothing(rt: HostRuntime) {
-    stopped_in_a_row(&rt, NewStore::Pool(1), POOL, 11);
+    let calls = [[9, 2, 0, 0], [9, 2, 0, 3]];
+    stopped_in_a_row(&rt, NewStore::Pool(1), POOL, calls);
 }

@@ -1,5 +1,5 @@
 -- How many slots a map gives to no home: all of them exactly where it gives none to one.
-use Rattle.std.proofs.Common.{◌≡◌, ◌≤◌, ◌<◌, ◌+◌, ◌*◌, ◌∷◌, ◌==◌, ℕ, zero, suc, Bool, true, false, [], length, if◌then◌else◌, refl, ap, ◌∙◌, ⊎_elim, arith}
+use Rattle.std.proofs.Common.{◌≡◌, ◌≤◌, ◌<◌, ◌+◌, ◌*◌, ◌∷◌, ◌==◌, ℕ, zero, suc, Bool, true, false, [], length, if◌then◌else◌, refl, ap, ◌∙◌, ⊎_elim, arith, add-one}
 use Rattle.std.proofs.lemmas.{Bool.{cases_eq, eqb-true, eq-eqb}, List.{length-append}}
 use Rattle.pool_journal.specs.{Journal.{free_count}, Maps.{free_among}, Recovering.{GivesNone}, declared.slot.Slot.{Slot}}
 
@@ -7,13 +7,16 @@ module _ (names : ℕ → ℕ) (body : Bool) where
   abbrev pub counts : ℕ → ℕ
   counts n = length (free_among names body n)
 
-  one_or_none : (b : Bool) (s : Slot) → length (if b then s ∷ [] else []) ≡ if b then 1 else 0
+  pub one_or_none : (b : Bool) (s : Slot) → length (if b then s ∷ [] else []) ≡ if b then 1 else 0
   one_or_none true s = refl
   one_or_none false s = refl
 
   one_more : (n : ℕ) → counts (suc n) ≡ counts n + (if names n == 0 then 1 else 0)
   unfolding free_among
   one_more n = length-append (free_among names body n) _ ∙ ap (λ k. counts n + k) (one_or_none (names n == 0) (record { second = body; place = n }))
+
+  pub counts_more : (n : ℕ) → counts (n + 1) ≡ counts n + (if names n == 0 then 1 else 0)
+  counts_more n = rw add-one (one_more n)
 
   pub few_free : (n : ℕ) → counts n ≤ n
   unfolding free_among
@@ -42,7 +45,7 @@ module _ (names : ℕ → ℕ) (body : Bool) where
       omega (arith, more, before)
 
 module _ (m : ℕ) (entries : Bool → ℕ → ℕ) where
-  in_all : free_count m entries ≡ length (free_among (entries false) false (504 * m)) + length (free_among (entries true) true (504 * m))
+  pub in_all : free_count m entries ≡ length (free_among (entries false) false (504 * m)) + length (free_among (entries true) true (504 * m))
   in_all = length-append (free_among (entries false) false (504 * m)) (free_among (entries true) true (504 * m))
 
   pub all_counted : GivesNone m entries → free_count m entries ≡ 2 * (504 * m)

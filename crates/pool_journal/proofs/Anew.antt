@@ -1,11 +1,11 @@
--- A map written anew: a commit of no pages.
-use Rattle.std.proofs.Common.{◌≡◌, ◌∙◌, ◌<◌, ◌*◌, ℕ, Bool, true, false, not, List, [], ◌⊎◌, Result, Ok, Err, refl, ⊎_elim, inl, inr, arith}
+-- A map written anew, or emptied once all pages are home: a commit of no pages.
+use Rattle.std.proofs.Common.{◌≡◌, ◌∙◌, ◌<◌, ◌+◌, ◌*◌, ℕ, Bool, true, false, not, List, [], ◌⊎◌, None, Result, Ok, Err, refl, ⊎_elim, inl, inr, arith}
 use Rattle.std.specs.Prelude.{IsErr}
 use Rattle.disk_model.{proofs.{Moments.{weaker, wider}, Naming.{once_apart, once_named}}, specs.{Moments.{Touches}, Stop.{Image, MayLeave, Names, NamesOnce}, declared.sector_disk.{DiskFault.{DiskFault}, SectorDisk.{Ghosts}}}}
 use Rattle.pool_journal.proofs.{BlockReads.{of_counted}, BlockWrites.{of_noted}, Loose.{map_high}, Phases.{as_before, either_kept, while_writing, while_naming, new_settled}}
 use Rattle.pool_journal.specs.{Blocks.{IsCountedMap, IsNotedMap}, Commit.{GivesHomes, IsWritten, NamesMap}, Gates.{IsPoolGate}, Giving.{AreRising}, Journal.{IsPoolJournal}, Maps.{entries_of}}
-use Rattle.pool_journal.specs.{Pools.{pool, pool_gate, pool_entry, pool_named, pool_standing, IsLoose, IsPoolMap, IsPoolRest}, Recovering.{layout_in, AnewInBlocks, GivesNone, IsGateOrMap, IsGateOrNoted, WritesAnew}, declared.pool.PoolJournal.{PoolJournal}}
-use Rattle.sync_journal.{proofs.{InTurn.{changed_none}, Layouts.{same_pages}, Runs.{one_more, of_more}}, specs.{Blocks.{IsSameBlock, LeavesInBlocks}, Commit.{changed}, Committing.{HomesStandOr}, Layout.{IsPageSector}, Layouts.{HomesStandAs, IsSettled, KeepsHomes}, Runs.{RunsOnDevice}}}
+use Rattle.pool_journal.specs.{Pools.{pool, pool_gate, pool_home, pool_entry, pool_named, pool_stands, pool_standing, slot_by, IsLoose, IsPoolMap, IsPoolRest}, Recovering.{layout_in, AnewInBlocks, GivesNone, IsGateOrMap, IsGateOrNoted, WritesAnew}, declared.pool.PoolJournal.{PoolJournal}}
+use Rattle.sync_journal.{proofs.{Shared.{changed_none}, Layouts.{same_pages}, Runs.{one_more, of_more}}, specs.{Blocks.{IsSameBlock, LeavesInBlocks}, Commit.{changed}, Committing.{HomesStandOr}, Layout.{IsPageSector}, Layouts.{HomesStandAs, IsSettled, KeepsHomes}, Runs.{RunsOnDevice}}}
 
 -- what stands when no pages are committed
 module _ (m n sectors : ℕ) (content : Image) where
@@ -28,33 +28,39 @@ gate_block k j same at = (omega (arith, same, at), omega (arith, same, at))
 none_rise : AreRising []
 none_rise i j less none = absurd (omega (arith, none))
 
-module _ {D : Type 0} (g : Ghosts D) (m n : ℕ) (second : Bool) (was : Bool → ℕ → ℕ) (old mid : D) (p : IsWritten g m n second was old mid) (new : D) (q : NamesMap g m n second was mid new) where
-  none_given : GivesHomes m was was was [] (no_pages m n (g.sector_count old) (g.content old)) (g.content old) (g.content mid)
+-- A map was, and is followed by this, over what the device held and holds: each home has the slot that it had, or holds what that held.
+abbrev pub KeepsPages : ℕ → (Bool → ℕ → ℕ) → (Bool → ℕ → ℕ) → Image → Image → Type 0
+KeepsPages m was now content staged = (h : ℕ) → (slot_by m now h ≡ slot_by m was h)
+    ⊎ ((slot_by m now h ≡ None) × ((i : ℕ) → i < 8 → staged (pool_home m h + i) ≡ content (pool_stands m h (slot_by m was h) + i)))
+
+module _ {D : Type 0} (g : Ghosts D) (m n : ℕ) (second : Bool) (was : Bool → ℕ → ℕ) (old mid : D) (p : IsWritten g m n second was old mid) (now : Bool → ℕ → ℕ) (new : D) (q : NamesMap g m n second now mid new)
+    (keeps : KeepsPages m was now (g.content old) (g.content mid)) where
+  none_given : GivesHomes m was now now [] (no_pages m n (g.sector_count old) (g.content old)) (g.content old) (g.content mid)
   none_given = record {
     given = λ body r below. inl refl;
     placed = λ j none. absurd (omega (arith, none));
     taken = λ body r below j none. absurd (omega (arith, none));
-    moved = λ h none. inl refl;
+    moved = λ h none. keeps h;
   }
 
   -- every image of a stop stands for what stood,
   pub anew_moments : KeepsHomes (pool m n) g old new
-  anew_moments = weaker g old new _ _ (none_kept m n (g.sector_count old) (g.content old)) (while_naming g m n second was old mid p was new q was [] _ none_rise none_given)
+  anew_moments = weaker g old new _ _ (none_kept m n (g.sector_count old) (g.content old)) (while_naming g m n second was old mid p now new q now [] _ none_rise none_given)
 
   -- also of one that spoils the gate's block,
   pub naming_blocks : LeavesInBlocks g IsPoolGate (HomesStandAs (pool m n) (g.sector_count old) (g.content old)) mid new
   naming_blocks = record {
     writes = q.names;
-    each = λ d wrote image may. none_kept m n (g.sector_count old) (g.content old) image (either_kept g m n second was old mid p was new q was [] _ none_rise none_given image (λ k off.
+    each = λ d wrote image may. none_kept m n (g.sector_count old) (g.content old) image (either_kept g m n second was old mid p now new q now [] _ none_rise none_given image (λ k off.
         ⊎_elim (λ there. ⊎_elim (λ u. absurd (q.synced there.0 u)) (λ at. absurd (off (gate_block k there.0 there.1 at))) (wrote.unsynced there.0 there.2))
         (λ e. ⊎_elim (λ at. absurd (off (gate_block k k refl at))) (λ e'. e ∙ e') (wrote.content k)) (may.kept k)));
   }
 
   -- and so does the device at the end
   pub anew_settled : pool_named (g.content new) ≡ not second → ((k : ℕ) → g.unsynced new k → ⊥)
-      → IsSettled (pool m n) g (g.sector_count old) (g.content old) (not second, was) new (pool_standing m n (g.content old))
+      → IsSettled (pool m n) g (g.sector_count old) (g.content old) (not second, now) new (pool_standing m n (g.content old))
   anew_settled named synced =
-      let settled = new_settled g m n second was old mid p was new q was [] _ none_rise none_given named synced in
+      let settled = new_settled g m n second was old mid p now new q now [] _ none_rise none_given named synced in
       let same = none_changed m n (g.sector_count old) (g.content old) in
       record {
         rest = settled.rest;
@@ -104,14 +110,14 @@ module _ {D : Type 0} (g : Ghosts D) (m n : ℕ) (second : Bool) (was : Bool →
     named_run = one_more g (IsGateOrMap m (not second)) old mid new mapped_run (of_more g IsPoolGate (IsGateOrMap m (not second)) mid new (λ k at. inl at) names)
 
     pub named_moments : g.keeps_model new → KeepsHomes (pool m n) g old new
-    named_moments keeps = anew_moments g m n second was old mid (is_written (names.kept keeps)) new (is_named keeps)
+    named_moments keeps = anew_moments g m n second was old mid (is_written (names.kept keeps)) was new (is_named keeps) (λ h. inl refl)
 
     pub named_blocks : ((k : ℕ) → g.unsynced old k → ⊥) → g.keeps_model new → AnewInBlocks g m (not second) (HomesStandAs (pool m n) (g.sector_count old) (g.content old)) old new
-    named_blocks clean keeps = inr (mid, mapped_blocks clean (names.kept keeps), naming_blocks g m n second was old mid (is_written (names.kept keeps)) new (is_named keeps))
+    named_blocks clean keeps = inr (mid, mapped_blocks clean (names.kept keeps), naming_blocks g m n second was old mid (is_written (names.kept keeps)) was new (is_named keeps) (λ h. inl refl))
 
     pub named_settled : g.keeps_model new → pool_named (g.content new) ≡ not second → ((k : ℕ) → g.unsynced new k → ⊥)
         → IsSettled (pool m n) g (g.sector_count old) (g.content old) (not second, was) new (pool_standing m n (g.content old))
-    named_settled keeps = anew_settled g m n second was old mid (is_written (names.kept keeps)) new (is_named keeps)
+    named_settled keeps = anew_settled g m n second was old mid (is_written (names.kept keeps)) was new (is_named keeps) (λ h. inl refl)
 
 -- a map and the gate, each sector once
 module _ (m : ℕ) (second : Bool) (before mid now : ℕ → ℕ) where

@@ -1,10 +1,21 @@
 -- What the parts of a commit write and ask for, one after another.
 use Rattle.std.proofs.Common.{◌≡◌, ◌⊎◌, ℕ, Bool, true, false, not, List, ap, subst, ⊎_elim, inl, inr, arith}
 use Rattle.disk_model.{proofs.Naming.{once_apart}, specs.{Stop.{NamesOnce}, declared.sector_disk.SectorDisk.{Ghosts}}}
-use Rattle.pool_journal.{proofs.{Loose.{same_place, no_map, no_home, map_low, map_high}, Thinned.{loose_home}}, specs.{Commit.{thinned, IsDropped}, Giving.{number_but}}}
+use Rattle.pool_journal.{proofs.{Loose.{same_place, no_map, no_home, map_low, map_high}, Thinned.{loose_home}}, specs.{Commit.{thinned, IsDropped, IsMoved}, Giving.{number_but}}}
 use Rattle.pool_journal.specs.Committing.{IsPoolStaged}
 use Rattle.pool_journal.specs.Pools.{pool_gate, pool_slot, IsPoolMap, IsLoose, IsLooseSlot, IsLooseHome, IsPoolUsed}
 use Rattle.sync_journal.{proofs.Runs.{one_more, of_more}, specs.{Layout.{IsPageSector}, Runs.{RunsOnDevice}}}
+
+-- what is copied home lies in no map, and no slot holds the gate
+pub moved_map : (m : ℕ) (b : Bool) (entries : Bool → ℕ → ℕ) (k : ℕ) → IsMoved m entries k → IsPoolMap m b k → ⊥
+moved_map m b entries k moved map = ⊎_elim (λ live. no_map m b live.0 live.1 k live.2 live.4 map) (λ home. map_low m b k map (omega (arith, home.3.0))) moved
+
+slot_from : (m : ℕ) (b : Bool) (r k : ℕ) → IsPageSector (pool_slot m b r) k → k ≡ pool_gate → ⊥
+slot_from m false r k slot at = omega (arith, slot.0, at)
+slot_from m true r k slot at = omega (arith, slot.0, at)
+
+pub moved_gate : (m : ℕ) (entries : Bool → ℕ → ℕ) (k : ℕ) → IsMoved m entries k → k ≡ pool_gate → ⊥
+moved_gate m entries k moved at = ⊎_elim (λ live. slot_from m live.0 live.1 k live.4 at) (λ home. omega (arith, home.3.0, at)) moved
 
 module _ (m : ℕ) (second : Bool) (was : Bool → ℕ → ℕ) (homes : List ℕ) where
   abbrev InBodies : ℕ → Type 0
@@ -19,17 +30,13 @@ module _ (m : ℕ) (second : Bool) (was : Bool → ℕ → ℕ) (homes : List �
 
   not_in_map : (k : ℕ) → InBodies k → IsPoolMap m (not second) k → ⊥
   not_in_map k there map = ⊎_elim
-      (λ moved. ⊎_elim (λ live. no_map m (not second) live.0 live.1 k live.2 live.4 map) (λ home. map_low m (not second) k map (omega (arith, home.3.0))) moved.1)
+      (λ moved. moved_map m (not second) (thinned homes was) k moved.1 map)
       (λ free. no_map m (not second) free.0 free.1 k free.2 free.4 map)
       there
 
-  slot_from : (b : Bool) (r k : ℕ) → IsPageSector (pool_slot m b r) k → k ≡ pool_gate → ⊥
-  slot_from false r k slot at = omega (arith, slot.0, at)
-  slot_from true r k slot at = omega (arith, slot.0, at)
-
   not_the_gate : (k : ℕ) → InBodies k ⊎ IsPoolMap m (not second) k → k ≡ pool_gate → ⊥
   not_the_gate k there at = ⊎_elim
-      (⊎_elim (λ moved. ⊎_elim (λ live. slot_from live.0 live.1 k live.4 at) (λ home. omega (arith, home.3.0, at)) moved.1) (λ free. slot_from free.0 free.1 k free.4 at))
+      (⊎_elim (λ moved. moved_gate m (thinned homes was) k moved.1 at) (λ free. slot_from m free.0 free.1 k free.4 at))
       (λ map. map_high m (not second) k map (omega (arith, at)))
       there
 

@@ -5,7 +5,7 @@ use Rattle.pool_journal.proofs.{Asking.{is_used, named_asks}, Loose.{few, loose_
 use Rattle.pool_journal.specs.{Commit.{TakesFirst, IsWritten, NamesMap}, Committing.{GivesInPool, StagesCommit, CommitsInPool, IsPoolStaged, IsPoolNoted, PoolCommitsInBlocks}, Gates.{IsPoolGate}, Journal.{TurnsMap, free_count}, Maps.{entries_of}}
 use Rattle.pool_journal.specs.Pools.{pool, pool_named, IsLoose, IsPoolRest, IsPoolUsed, IsSingle}
 use Rattle.pool_journal.specs.declared.{map.SlotMap.{SlotMap}, pool.PoolJournal.{PoolJournal}}
-use Rattle.sync_journal.proofs.{Causes.{told_on, none_failed, puts_failed}, InTurn.{blocks_weaker}, Layouts.{or_before}, Runs.{one_more, of_more}}
+use Rattle.sync_journal.proofs.{Causes.{told_on, none_failed, puts_failed}, Shared.{blocks_weaker}, Layouts.{or_before}, Runs.{one_more, of_more}}
 use Rattle.sync_journal.specs.{Committing.{CommitsOver, HomesStandOr}, Layouts.{HomesStandAs}, Runs.{RunsOnDevice}, Source.{HasCauses}, Steps.{SyncsInto}}
 use Rattle.sync_journal.specs.declared.{faults.CommitFault.{CommitFault, TheVariants.{Device}}, source.PageSource.{Ghosts as SourceGhosts}}
 

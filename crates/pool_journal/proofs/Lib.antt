@@ -21,3 +21,4 @@ pub mod Stages
 pub mod Staging
 pub mod Taken
 pub mod Thinned
+pub mod Tidied

@@ -3,7 +3,7 @@ use Rattle.std.proofs.Common.{◌≡◌, ◌⊎◌, ◌≤◌, ◌<◌, ◌+◌,
 use Rattle.disk_model.{proofs.Moments.{started, goes_on, weaker}, specs.{Moments.{LeavesOnly}, Stop.{Image, MayLeave}, declared.sector_disk.SectorDisk.{Ghosts}}}
 use Rattle.pool_journal.{proofs.{Loose.{same_entry, slot_same, firm_map, stands_from, map_high, loose_high, loose_low, few, stood, pool_stays}, Slots.{now_stands}}, specs.{Commit.{GivesHomes, KeepsOthers, IsWritten, NamesMap}, Gates.{IsPoolGate}, Giving.{AreRising}}}
 use Rattle.pool_journal.specs.Pools.{pool, pool_gate, pool_slot, pool_home, pool_entry, pool_named, pool_under, pool_stands, pool_standing, slot_by, IsPoolRest, IsPoolMap, IsLoose}
-use Rattle.sync_journal.proofs.{InTurn.{which}, Layouts.{FixesOutside, or_before}}
+use Rattle.sync_journal.proofs.{Shared.{which}, Layouts.{FixesOutside, or_before}}
 use Rattle.sync_journal.specs.{Blocks.{IsSameBlock, LeavesInBlocks}, Commit.{changed, sector_or}, Committing.{HomesStandOr}, Gate.{is_open_sector}, Layout.{IsPageSector}, Layouts.{HomesStandAs, IsKept, IsSettled, StandsForPages}, Map.{home_rank}}
 
 -- what lies outside is so of every image

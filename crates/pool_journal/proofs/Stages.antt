@@ -80,7 +80,7 @@ module _ {D : Type 0} {g : Ghosts D} {homes : List ℕ} {was : PoolJournal} {old
 
   -- free slots are filled,
   module _ {S : Type 0} {s : SourceGhosts S} (two : PoolJournal) (written : D) {from left : S} {r2 : Result (Unit {0}) CommitFault} (fills : FillsSlots g s homes one two copied written from left r2) where
-    pub fills_was : FillsSlots g s homes (record { sizes = was.sizes; second = was.second; map = was.map; next = one.next; free = was.free }) two copied written from left r2
+    pub fills_was : FillsSlots g s homes (record { sizes = was.sizes; second = was.second; map = was.map; next = one.next; free = was.free; taken = one.taken }) two copied written from left r2
     fills_was = subst (λ journal. FillsSlots g s homes journal two copied written from left r2) (only_next was one rooms.changes) fills
 
     both : ChangesNext was two
@@ -125,7 +125,7 @@ module _ {D : Type 0} {g : Ghosts D} {homes : List ℕ} {was : PoolJournal} {old
           (asks_then g W old written mapped
           (asks_then g W old copied written (asks_wider g (IsDropped was.sizes.blocks (entries_of was.map) homes) W old copied (λ k moved. inl (inl moved)) rooms.asks)
           (asks_wider g (IsFilled was.sizes.blocks (first_free_slots (length homes) was) (length homes)) W copied written
-          (λ k at. inl (inr (subst (λ slots. IsFilled was.sizes.blocks slots (length homes) k) fills_was.first at))) fills_was.asks_slots))
+          (λ k at. inl (inr at)) fills_was.asks_slots))
           (asks_once g W (IsNotedMap was.sizes.blocks (not was.second) (entries_of two.next)) written mapped (λ k map. inr map) maps_was.once))
           (asks_none g W mapped new syncs.asks)
 
@@ -160,7 +160,7 @@ stage_ends {g} {s} {homes} {was} {old} one copied rooms two written {from} {left
       others = λ keeps. staged_others was.sizes.blocks (entries_of was.map) (not was.second) one.next two.next homes (first_free_slots (length homes) was) (g.content old) (g.content copied) (g.content written) (g.content new)
           (thins keeps) (filled keeps) (noted keeps) fill.long fill.are fill.given was.second (stages.run.touches keeps).content;
       placed = λ j below.
-          let at = ap (λ xs. slot_at xs j) fill.first ∙ nth_of_first (length homes) (free_from was.sizes.blocks (entries_of was.map) (not was.second)) j below in
+          let at = nth_of_first (length homes) (free_from was.sizes.blocks (entries_of was.map) (not was.second)) j below in
           ap (λ (slot : Slot). entries_of two.next slot.second slot.place) (sym at) ∙ fill.given.given j below;
       homes_are = given_most (length homes) (first_free_slots (length homes) was) homes one.next two.next was.sizes.homes fill.given fill.long rooms.homes_are inside;
       single = λ was_single. given_single was.sizes.blocks (length homes) (first_free_slots (length homes) was) homes one.next two.next fill.given fill.long refl rising (rooms.single was_single) rooms.new_homes;

@@ -7,13 +7,13 @@ use Rattle.pool_journal.specs.Commit.{IsThinned, GivesHomes, KeepsOthers}
 use Rattle.pool_journal.specs.{Filling.{HoldsSlots}, Giving.{slot_at, AreFree, GivesFirst, AreRising}, Maps.{entries_of}, Pools.{pool_slot, pool_home, IsLoose, IsLooseSlot, IsPoolMap, IsSingle}, Room.{ChangesNext}}
 use Rattle.pool_journal.specs.declared.{map.SlotMap.{SlotMap}, pool.PoolJournal.{PoolJournal}, slot.Slot.{Slot}}
 
--- a journal that changes its next map alone
-pub only_next : (was now : PoolJournal) → ChangesNext was now → now ≡ record { sizes = was.sizes; second = was.second; map = was.map; next = now.next; free = was.free }
+-- a journal that changes its next map alone, and what slots it takes
+pub only_next : (was now : PoolJournal) → ChangesNext was now → now ≡ record { sizes = was.sizes; second = was.second; map = was.map; next = now.next; free = was.free; taken = now.taken }
 only_next was now changes =
-    ap (λ sizes. record { sizes = sizes; second = now.second; map = now.map; next = now.next; free = now.free }) changes.sizes
-    ∙ ap (λ second. record { sizes = was.sizes; second = second; map = now.map; next = now.next; free = now.free }) changes.second
-    ∙ ap (λ map. record { sizes = was.sizes; second = was.second; map = map; next = now.next; free = now.free }) changes.map
-    ∙ ap (λ free. record { sizes = was.sizes; second = was.second; map = was.map; next = now.next; free = free }) changes.free
+    ap (λ sizes. record { sizes = sizes; second = now.second; map = now.map; next = now.next; free = now.free; taken = now.taken }) changes.sizes
+    ∙ ap (λ second. record { sizes = was.sizes; second = second; map = now.map; next = now.next; free = now.free; taken = now.taken }) changes.second
+    ∙ ap (λ map. record { sizes = was.sizes; second = was.second; map = map; next = now.next; free = now.free; taken = now.taken }) changes.map
+    ∙ ap (λ free. record { sizes = was.sizes; second = was.second; map = was.map; next = now.next; free = free; taken = now.taken }) changes.free
 
 -- what was copied home stays where homes are written no more
 pub later_thinned : (m : ℕ) (was thin : Bool → ℕ → ℕ) (homes : List ℕ) (content copied staged : Image) → ((k : ℕ) → pool_home m 0 ≤ k → staged k ≡ copied k)

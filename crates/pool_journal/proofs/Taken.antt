@@ -1,5 +1,5 @@
 -- Which homes keep their slots.
-use Rattle.std.proofs.Common.{◌≡◌, ◌+◌, ◌<◌, ◌≤◌, ℕ, zero, suc, Option, Some, None, Result, Ok, Err, Bool, true, false, List, length, get_or, is_some, is_ok, refl, sym, ap, ◌∙◌, ⊎_elim, arith, if◌then◌else◌, ◌==◌, add-one}
+use Rattle.std.proofs.Common.{◌≡◌, ◌+◌, ◌-◌, ◌<◌, ◌≤◌, ℕ, zero, suc, Option, Some, None, Result, Ok, Err, Bool, true, false, List, length, get_or, is_some, is_ok, refl, sym, ap, ◌∙◌, ⊎_elim, arith, if◌then◌else◌, ◌==◌, add-one}
 use Rattle.std.proofs.lemmas.{Bool.{cases_eq, cases_lt, eq-eqb, Decides.{nat_tests}}, List.Sorted.{searched}}
 use Rattle.std.specs.{List.Sorted.{IsBinarySearchResult}, Ordering.{nat_cmp}, Prelude.{MatchResult, nat_lt}}
 use Rattle.pool_journal.specs.Giving.{AreRising, live_among}
@@ -26,6 +26,23 @@ ranked homes h r rising searches = here r (home_rank homes h) (searched homes h 
     here (Err i) (Some j) gap means = ⊎_elim (λ before. (let low : get_or homes j 0 < h = gap.1 j before in absurd (omega (arith, low, means.1))))
         (λ after. (let high : h < get_or homes j 0 = gap.2 j after means.0 in absurd (omega (arith, high, means.1))))
         (cases_lt j i)
+
+-- one that lies before the first of them or behind the last one is none of them
+pub not_ranked : (homes : List ℕ) (h : ℕ) → AreRising homes → (0 < length homes → get_or homes 0 0 ≤ h → h ≤ get_or homes (length homes - 1) 0 → ⊥) → home_rank homes h ≡ None
+not_ranked homes h rising out = here (home_rank homes h) refl (place_means (λ j. get_or homes j 0) h (length homes))
+  where
+    up : (i j : ℕ) → i ≤ j → j < length homes → get_or homes i 0 ≤ get_or homes j 0
+    up i j le below = ⊎_elim (λ same. (let e : get_or homes i 0 ≡ get_or homes j 0 = ap (λ k. get_or homes k 0) same in omega (arith, e)))
+        (λ other. (let less : get_or homes i 0 < get_or homes j 0 = rising i j (omega (arith, le, other)) below in omega (arith, less)))
+        (cases_eq i j)
+
+    here : (o : Option ℕ) → home_rank homes h ≡ o → Means (λ j. get_or homes j 0) h (length homes) o → home_rank homes h ≡ None
+    here None is means = is
+    here (Some j) is means =
+        let low = up 0 j (omega arith) means.0 in
+        let high = up j (length homes - 1) (let within = means.0 in omega (arith, within)) (let within = means.0 in omega (arith, within)) in
+        let at = means.1 in
+        absurd (out (let within = means.0 in omega (arith, within)) (omega (arith, low, at)) (omega (arith, high, at)))
 
 -- how many are given depends on the first n places alone
 pub live_same : (names others : ℕ → ℕ) (n : ℕ) → ((j : ℕ) → j < n → names j ≡ others j) → live_among names n ≡ live_among others n

@@ -64,24 +64,26 @@ kept m was thin homes content staged is = record {
   moved = λ h none. inl (slot_alike m thin (thinned homes was) h (λ body r below. ap (λ x. x == suc h) (is body r)) ∙ same_slots m homes was h none);
 }
 
--- and where they were copied home
+-- a home whose page was copied home, where the map gives no slot
+pub brought : (m : ℕ) (was now : Bool → ℕ → ℕ) (content staged : Image) (h : ℕ) → ((body : Bool) (r : ℕ) → now body r ≡ 0)
+    → ((slot : Bool × ℕ) → slot_by m was h ≡ Some slot → (i : ℕ) → i < 8 → staged (pool_home m h + i) ≡ content (pool_slot m slot.0 slot.1 + i))
+    → (slot_by m now h ≡ slot_by m was h) ⊎ ((slot_by m now h ≡ None) × ((i : ℕ) → i < 8 → staged (pool_home m h + i) ≡ content (pool_stands m h (slot_by m was h) + i)))
+brought m was now content staged h none holds = here (slot_by m was h) refl
+  where
+    here : (o : Option (Bool × ℕ)) → slot_by m was h ≡ o
+        → (slot_by m now h ≡ slot_by m was h) ⊎ ((slot_by m now h ≡ None) × ((i : ℕ) → i < 8 → staged (pool_home m h + i) ≡ content (pool_stands m h (slot_by m was h) + i)))
+    here None is = inl (no_slot m now h none ∙ sym is)
+    here (Some slot) is = inr (no_slot m now h none, λ i below. holds slot is i below ∙ ap (λ o. content (pool_stands m h o + i)) (sym is))
+
+-- and where the others were
 pub copied : (m : ℕ) (was thin : Bool → ℕ → ℕ) (homes : List ℕ) (content staged : Image) → ((body : Bool) (r : ℕ) → thin body r ≡ 0)
     → ((h : ℕ) (slot : Bool × ℕ) → slot_by m (thinned homes was) h ≡ Some slot → (i : ℕ) → i < 8
     → staged (pool_home m h + i) ≡ content (pool_slot m slot.0 slot.1 + i)) → IsThinned m was thin homes content staged
 copied m was thin homes content staged none holds = record {
   free = λ body r free. none body r;
   taken = λ body r j inside names. omega (arith, names, none body r);
-  moved = λ h left. here h left (slot_by m was h) refl;
+  moved = λ h left. brought m was thin content staged h none (λ slot is. holds h slot (same_slots m homes was h left ∙ is));
 }
-  where
-    here : (h : ℕ) → home_rank homes h ≡ None → (o : Option (Bool × ℕ)) → slot_by m was h ≡ o → (slot_by m thin h ≡ slot_by m was h)
-        ⊎ ((slot_by m thin h ≡ None) × ((i : ℕ) → i < 8 → staged (pool_home m h + i) ≡ content (pool_stands m h (slot_by m was h) + i)))
-    here h left None is = inl (no_slot m thin h none ∙ sym is)
-    here h left (Some slot) is = inr (
-      no_slot m thin h none,
-      λ i below. holds h slot (same_slots m homes was h left ∙ is) i below
-          ∙ ap (λ o. content (pool_stands m h o + i)) (sym is),
-    )
 
 -- a slot is one of the first n or none of them
 pub is_given : (n : ℕ) (slots : List Slot) (body : Bool) (r : ℕ) → ((j : ℕ) × (j < n) × (r ≡ (slot_at slots j).place) × (body ≡ (slot_at slots j).second))

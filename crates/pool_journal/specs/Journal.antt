@@ -1,11 +1,11 @@
 -- The journal of a pool in memory.
-use Rattle.std.specs.Prelude.{ℕ, ◌+◌, ◌*◌, ◌≤◌, ◌≡◌, Bool, true, false, not, List, length, take, nat_lt}
+use Rattle.std.specs.Prelude.{ℕ, ◌+◌, ◌*◌, ◌≤◌, ◌≡◌, Bool, true, false, not, List, length, nat_lt, vec_capacity}
 use Rattle.pool_journal.specs.Giving.{number_but, live_among}
 use Rattle.pool_journal.specs.Maps.{entries_of, IsMapOf, IsEmptyMap, free_slots}
 use Rattle.pool_journal.specs.Sizes.{IsSized}
 use Rattle.pool_journal.specs.declared.map.SlotMap.{SlotMap}
 use Rattle.pool_journal.specs.declared.pool.PoolJournal.{PoolJournal}
-use Rattle.pool_journal.specs.declared.searches.FreeSlots.{FreeSlots}
+use Rattle.pool_journal.specs.declared.searches.TakenSlots.{TakenSlots}
 use Rattle.pool_journal.specs.declared.sizes.PoolSizes.{PoolSizes}
 use Rattle.pool_journal.specs.declared.slot.Slot.{Slot}
 
@@ -14,16 +14,12 @@ abbrev pub free_count : ℕ → (Bool → ℕ → ℕ) → ℕ
 free_count m entries = length (free_slots m entries false true)
 
 -- A list of slots has room for all those of a pool of so many blocks.
-abbrev pub HasRoom : ℕ → FreeSlots → Type 0
-HasRoom m free = (free.count ≤ length free.slots.items) × (1008 * m ≤ length free.slots.items)
+abbrev pub HasRoom : ℕ → TakenSlots → Type 0
+HasRoom m taken = 1008 * m ≤ vec_capacity taken.slots
 
 -- the slots that a map gives to no home, first those of one body
 abbrev pub free_from : ℕ → (Bool → ℕ → ℕ) → Bool → List Slot
 free_from m entries first = free_slots m entries first (not first)
-
--- It lists those.
-abbrev pub IsListOf : ℕ → SlotMap → Bool → FreeSlots → Type 0
-IsListOf m map first free = take free.count free.slots.items ≡ free_from m (entries_of map) first
 
 -- A journal between two commits:
 pub record IsPoolJournal (journal : PoolJournal) : Type 0 where
@@ -34,9 +30,9 @@ pub record IsPoolJournal (journal : PoolJournal) : Type 0 where
   pub next : IsMapOf journal.sizes.blocks journal.next
   -- the map gives them to homes of the device alone,
   pub homes : (body : Bool) (r : ℕ) → entries_of journal.map body r ≤ journal.sizes.homes
-  -- and those that it gives to none are listed, first those of the body behind the other map.
-  pub room : HasRoom journal.sizes.blocks journal.free
-  pub listed : IsListOf journal.sizes.blocks journal.map (not journal.second) journal.free
+  -- those that it gives to none are counted, and there is room for a list of them.
+  pub counted : journal.free ≡ free_count journal.sizes.blocks (entries_of journal.map)
+  pub room : HasRoom journal.sizes.blocks journal.taken
 
 -- A new journal:
 pub record IsNewJournal (sizes : PoolSizes) (journal : PoolJournal) : Type 0 where

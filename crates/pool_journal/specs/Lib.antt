@@ -13,3 +13,4 @@ pub mod Reading
 pub mod Recovering
 pub mod Room
 pub mod Sizes
+pub mod Tidying

@@ -47,9 +47,9 @@ pub record MakesRoom {D : Type 0} (g : Ghosts D) (homes : List ℕ) (was now : P
   pub failed : IsErr result → g.failures old < g.failures new
   pub calm : OnOk result (g.failures new ≡ g.failures old)
 
--- So many of the first free slots of a journal:
+-- So many of the slots that a journal's map gives to no home, first of those of the body behind the other map:
 abbrev pub first_free_slots : ℕ → PoolJournal → List Slot
-first_free_slots n journal = take n journal.free.slots.items
+first_free_slots n journal = take n (free_from journal.sizes.blocks (entries_of journal.map) (not journal.second))
 
 -- Free slots are filled:
 pub record FillsSlots {D S : Type 0} (g : Ghosts D) (s : Pages.Ghosts S) (homes : List ℕ) (was now : PoolJournal) (old new : D) (from left : S) (result : Result (Unit {0}) CommitFault) : Type 0 where
@@ -60,8 +60,7 @@ pub record FillsSlots {D S : Type 0} (g : Ghosts D) (s : Pages.Ghosts S) (homes 
   pub asks_slots : AsksOnly g (IsFilled was.sizes.blocks (first_free_slots (length homes) was) (length homes)) old new
   -- the next map gives them to the homes,
   pub given : OnOk result (GivesFirst (length homes) (first_free_slots (length homes) was) homes was.next now.next)
-  -- as they are the first of those that the map gives to none, which are free and apart,
-  pub first : first_free_slots (length homes) was ≡ take (length homes) (free_from was.sizes.blocks (entries_of was.map) (not was.second))
+  -- they are as many, and free,
   pub long : length (first_free_slots (length homes) was) ≡ length homes
   pub are : AreFree was.sizes.blocks (entries_of was.map) (first_free_slots (length homes) was)
   -- and nothing else of the journal changes.

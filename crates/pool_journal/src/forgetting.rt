@@ -1,5 +1,5 @@
 //! Homes that a commit writes anew keep no slot.
-ghost use Rattle.std.specs.Prelude.{◌≡◌, ◌<◌, ◌≤◌, ◌+◌, ◌^◌, ℕ, length, get_or, is_some};
+ghost use Rattle.std.specs.Prelude.{◌≡◌, ◌<◌, ◌≤◌, ◌+◌, ◌^◌, ℕ, false, None, length, get_or, is_some};
 ghost use Rattle.pool_journal.specs.Giving.{AreRising, Forgets, number_but, live_among};
 ghost use Rattle.sync_journal.specs.Map.{home_rank};
 
@@ -48,5 +48,23 @@ fn is_among(home: u32, homes: &[u32]) -> bool
     requires { AreRising homes.now }
     ensures { result ≡ is_some (home_rank homes.now home) }
 {
-    homes.binary_search(&home).is_ok()
+    if is_between(home, homes) {
+        homes.binary_search(&home).is_ok()
+    } else {
+        false
+    }
+}
+
+// Whether a home is none of those before the first of these or behind the last one.
+fn is_between(home: u32, homes: &[u32]) -> bool
+    requires { AreRising homes.now }
+    ensures { result ≡ false → home_rank homes.now home ≡ None }
+{
+    if homes.len() == 0 {
+        return false;
+    }
+    if home < homes[0] {
+        return false;
+    }
+    home <= homes[homes.len() - 1]
 }

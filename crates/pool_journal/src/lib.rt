@@ -38,6 +38,7 @@ mod recovering;
 mod searches;
 mod sizes;
 mod slot;
+mod tidying;
 
 pub use pool::PoolJournal;
 pub use sizes::{BLOCK_SLOTS, MAX_BLOCKS, POOL_GATE, PoolSizes};

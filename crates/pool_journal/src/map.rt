@@ -22,10 +22,13 @@ impl SlotMap {
         ensures empty { IfOk result IsEmptyMap }
     {
         let places = (BLOCK_SLOTS * blocks) as usize;
-        Ok(SlotMap {
-            first: Vec::from_elem(alloc, 0, places)?,
-            second: Vec::from_elem(alloc, 0, places)?,
-        })
+        let mut map = SlotMap {
+            first: Vec::new(alloc),
+            second: Vec::new(alloc),
+        };
+        map.first.resize(places, 0)?;
+        map.second.resize(places, 0)?;
+        Ok(map)
     }
 
     /// What the map gives the slots of a body to, in order.

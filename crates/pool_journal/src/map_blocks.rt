@@ -153,11 +153,12 @@ fn counted_in(first: &[u32], second: &[u32]) -> usize
     ensures rest { (r : ℕ) → 504 * result ≤ r → r < length first.now → (get_or first.now r 0 ≡ 0) × (get_or second.now r 0 ≡ 0) }
     ensures least { (result ≡ 1) ⊎ ((r : ℕ) × (504 * (result - 1) ≤ r) × (r < length first.now) × ((get_or first.now r 0 ≡ 0) × (get_or second.now r 0 ≡ 0) → ⊥)) }
 {
-    let mut counted = 1;
-    for place in 0..first.len() {
-        counted = counted_to(counted, place, first[place], second[place]);
+    for place in (0..first.len()).rev() {
+        if first[place] > 0 || second[place] > 0 {
+            return place / SLOTS + 1;
+        }
     }
-    counted
+    1
 }
 
 // Reads the numbers of a block for one body into those from a place on, and puts 0 for those that are too large.
@@ -178,15 +179,4 @@ fn bounded(number: u32, most: u32) -> u32
     ensures { result ≡ within most number }
 {
     if number > most { 0 } else { number }
-}
-
-// How many blocks count that did before, and with a place at which the two bodies' slots are given to these numbers.
-fn counted_to(counted: usize, place: usize, first: u32, second: u32) -> usize
-    ensures { ((result ≡ place / 504 + 1) × ((first ≡ 0) × (second ≡ 0) → ⊥)) ⊎ ((result ≡ counted) × (first ≡ 0) × (second ≡ 0)) }
-{
-    if first > 0 || second > 0 {
-        place / SLOTS + 1
-    } else {
-        counted
-    }
 }

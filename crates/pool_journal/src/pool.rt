@@ -1,8 +1,8 @@
 //! The journal of a pool, between two commits and as one begins and ends.
-ghost use Rattle.std.specs.Prelude.{◌≡◌, ◌≤◌, ◌<◌, ◌^◌, ℕ, Bool, not, length, get_or, IfOk};
-ghost use Rattle.pool_journal.specs.Maps.{entries_of, IsMapOf};
+ghost use Rattle.std.specs.Prelude.{◌≡◌, ◌≤◌, ◌<◌, ◌^◌, ℕ, Bool, length, get_or, IfOk};
+ghost use Rattle.pool_journal.specs.Maps.{entries_of};
 ghost use Rattle.pool_journal.specs.Giving.{AreRising};
-ghost use Rattle.pool_journal.specs.Journal.{IsPoolJournal, IsNewJournal, HasRoom, IsListOf, BeginsMap, TurnsMap, free_count};
+ghost use Rattle.pool_journal.specs.Journal.{IsPoolJournal, IsNewJournal, BeginsMap, TurnsMap, free_count};
 ghost use Rattle.pool_journal.specs.Room.{MakesRoom, FillsSlots};
 ghost use Rattle.pool_journal.specs.Sizes.{HasPool, IsSized};
 
@@ -11,7 +11,7 @@ use crate::filling::write_pages;
 use crate::forgetting::forget;
 use crate::giving::give_all;
 use crate::map::SlotMap;
-use crate::searches::FreeSlots;
+use crate::searches::TakenSlots;
 use crate::sizes::PoolSizes;
 use crate::slot::Slot;
 use disk_model::{DiskFault, SectorDisk};
@@ -29,8 +29,10 @@ pub struct PoolJournal {
     pub(crate) map: SlotMap,
     /// Room for the map of the next commit.
     pub(crate) next: SlotMap,
-    /// The slots that the named map gives to no home, first those of the other body.
-    pub(crate) free: FreeSlots,
+    /// How many slots the named map gives to no home.
+    pub(crate) free: usize,
+    /// Room for those of them that the next commit takes.
+    pub(crate) taken: TakenSlots,
 }
 
 impl PoolJournal {
@@ -41,16 +43,16 @@ impl PoolJournal {
     {
         let map = SlotMap::new(alloc, sizes.blocks)?;
         let next = SlotMap::new(alloc, sizes.blocks)?;
-        let free = FreeSlots::room(alloc, sizes)?;
-        let mut journal = PoolJournal {
+        let taken = TakenSlots::room(alloc, sizes)?;
+        let free = map.free_count();
+        Ok(PoolJournal {
             sizes,
             second: false,
             map,
             next,
             free,
-        };
-        journal.list();
-        Ok(journal)
+            taken,
+        })
     }
 
     /// How large the pool is, and how many homes the device has.
@@ -65,7 +67,7 @@ impl PoolJournal {
         requires { IsPoolJournal self.now }
         ensures { result ≡ free_count self.now.sizes.blocks (entries_of self.now.map) }
     {
-        self.free.count
+        self.free
     }
 
     // The map of the next commit begins as the map, but its homes keep no slot. It answers whether slots for these and for the others are
@@ -114,7 +116,8 @@ impl PoolJournal {
         requires gives { (i : ℕ) → i < length homes.now → S.gives source.old i }
         ensures { FillsSlots D.SectorDisk S.PageSource homes.now self.old self.new disk.old disk.new source.old source.new result }
     {
-        let slots = &self.free.slots[..homes.len()];
+        self.taken.list(&self.map, !self.second, homes.len());
+        let slots = &self.taken.slots;
         write_pages(disk, self.sizes, slots, source)?;
         give_all(&mut self.next, slots, homes);
         Ok(())
@@ -128,18 +131,6 @@ impl PoolJournal {
     {
         swap(&mut self.map, &mut self.next);
         self.second = !self.second;
-        self.list();
-    }
-
-    // Lists the slots that the map gives to no home.
-    fn list(&mut self)
-        requires sized { IsSized self.old.sizes }
-        requires map { IsMapOf self.old.sizes.blocks self.old.map }
-        requires room { HasRoom self.old.sizes.blocks self.old.free }
-        ensures listed { IsListOf self.new.sizes.blocks self.new.map (not self.new.second) self.new.free }
-        ensures room { HasRoom self.new.sizes.blocks self.new.free }
-        ensures same { (self.new.sizes ≡ self.old.sizes) × (self.new.second ≡ self.old.second) × (self.new.map ≡ self.old.map) × (self.new.next ≡ self.old.next) }
-    {
-        self.free.list(&self.map, !self.second);
+        self.free = self.map.free_count();
     }
 }

@@ -80,8 +80,8 @@ impl PoolJournal {
         Ok(())
     }
 
-    // Whether the map gives a slot to a home.
-    fn gives(&self) -> bool
+    /// Whether the map gives a slot to a home.
+    pub(crate) fn gives(&self) -> bool
         requires { IsPoolJournal self.now }
         ensures some { result ≡ true → GivesNone self.now.sizes.blocks (entries_of self.now.map) → ⊥ }
         ensures none { result ≡ false → GivesNone self.now.sizes.blocks (entries_of self.now.map) }
@@ -104,16 +104,16 @@ impl PoolJournal {
         requires sized { IsSized self.old.sizes }
         requires maps { IsMapOf self.old.sizes.blocks self.old.map × IsMapOf self.old.sizes.blocks self.old.next }
         requires homes { (body : Bool) (r : ℕ) → entries_of self.old.map body r ≤ self.old.sizes.homes }
-        requires room { HasRoom self.old.sizes.blocks self.old.free }
+        requires room { HasRoom self.old.sizes.blocks self.old.taken }
         ensures { FacesMap second self.old self.new }
     {
         self.second = second;
-        self.free.list(&self.map, !second);
+        self.free = self.map.free_count();
     }
 }
 
-// Writes a map in this place, and syncs.
-fn put_map<D: SectorDisk>(
+/// Writes a map in this place, and syncs.
+pub(crate) fn put_map<D: SectorDisk>(
     disk: &mut D,
     sizes: PoolSizes,
     second: bool,

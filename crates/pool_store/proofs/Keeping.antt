@@ -4,7 +4,7 @@ use Rattle.std.proofs.lemmas.Bool.{cases_eq}
 use Rattle.disk_model.{proofs.Moments.{weaker, joined}, specs.{Moments.{Nothing, LeavesOnly}, Stop.{Image, MayLeave}, declared.sector_disk.{DiskFault.{DiskFault}, SectorDisk.{Ghosts}}}}
 use Rattle.directories.specs.Kinds.{IsKind}
 use Rattle.pool_journal.specs.{Gates.{IsPoolGate}, Pools.{pool, pool_home_count, pool_named, IsPoolMap}, Recovering.{AnewInBlocks, WritesAnew}, declared.pool.PoolJournal.{PoolJournal}}
-use Rattle.sync_journal.{proofs.{InTurn.{blocks_weaker}, Sectors.{so_before, while_read}}, specs.{Layouts.{HomesStandAs}, Runs.{RunsOnDevice}}}
+use Rattle.sync_journal.{proofs.{Shared.{blocks_weaker}, Sectors.{so_before, while_read}}, specs.{Layouts.{HomesStandAs}, Runs.{RunsOnDevice}}}
 use Rattle.pool_store.{proofs.{OneKind.{one_kind}, Standing.{stands_kept}}, specs.{Files.{StandsAs}, Pools.{files_in_pool, IsBadPool.{OtherKind}}, Resume.{KeepsStore}}}
 
 -- what stands for what one image stood for, where that does so for what an earlier one stood for

@@ -6,5 +6,5 @@ pub use Rattle.std.proofs.Common.{◌≤◌, ◌<◌, ◌+◌, ◌-◌, ◌*◌,
 pub use Rattle.std.proofs.lemmas.{Bool.{Decides.{nat_tests}, cases_eq, cases_lt, cond-false, cond-true, false≢true, ne_eqb}, List.{append-nil, drop-set-lt, get_or_past, length-set, take_at}}
 pub use Rattle.std.proofs.lemmas.{Option.{none-some, same_Some, slice_get_past, slice_get_read, slice_get_within}, Result.{on_err_weaker, on_ok_weaker}, Slice.Eq.{bytes_eq-Decides}}
 pub use Rattle.std.specs.{Option.{option_map}, Prelude.{IfSome, IsErrAnd, IsErrOf, IsSome}}
-pub use Rattle.sync_journal.specs.{Blocks.{LeavesInBlocks}, Kinds.{kind_when}, Layout.{IsPageSector}, Runs.{RunsOnDevice}}
-unfoldable pub use Rattle.{disk_model.specs.Sectors.{joined}, sync_journal.specs.Kinds.{is_kind, turn_kind}}
+pub use Rattle.sync_journal.specs.{Blocks.{LeavesInBlocks}, Layout.{IsPageSector}, Runs.{RunsOnDevice}}
+unfoldable pub use Rattle.disk_model.specs.Sectors.{joined}

@@ -1,8 +1,8 @@
 -- A store that a commit has left.
 use Rattle.std.proofs.Common.{◌≡◌, ℕ, ◌<◌, ◌≤◌, ◌⊎◌, ⊎_elim, Bool, inl, inr, not, List, None, Result, Ok, Err, OnOk, sym, ap, subst, ◌∙◌, arith}
-use Rattle.disk_model.specs.{Stop.{Image}, declared.sector_disk.SectorDisk.{Ghosts}}
-use Rattle.sync_journal.{proofs.InTurn.{blocks_weaker}, specs.Map.{home_rank}}
-use Rattle.pool_journal.specs.{Committing.{PoolCommitsInBlocks}, Gates.{IsPoolGate}, Journal.{IsPoolJournal}, Maps.{entries_of}, Pools.{pool_gate, pool_home, pool_home_count, pool_standing, IsLoose, IsPoolRest}, Sizes.{HasPool}}
+use Rattle.disk_model.specs.{Stop.{Image}, declared.sector_disk.{DiskFault.{DiskFault}, SectorDisk.{Ghosts}}}
+use Rattle.sync_journal.{proofs.Shared.{blocks_weaker}, specs.Map.{home_rank}}
+use Rattle.pool_journal.specs.{Committing.{PoolCommitsInBlocks}, Gates.{IsPoolGate}, Journal.{IsPoolJournal}, Maps.{entries_of}, Pools.{pool_gate, pool_home, pool_home_count, pool_standing, IsLoose, IsPoolRest}, Sizes.{HasPool}, Tidying.{TidiesPool}}
 use Rattle.pool_journal.specs.declared.{pool.PoolJournal.{PoolJournal}, sizes.PoolSizes.{PoolSizes}}
 use Rattle.directories.specs.Kinds.{IsKind}
 use Rattle.pool_store.proofs.Standing.{AreAlike, said_same}
@@ -68,3 +68,10 @@ module _ {D : Type 0} (g : Ghosts D) (store : PoolStore D) (disk : D) (journal :
   ready_again (Ok x) homes ready is same size kept has second rest outside none others = ready_with ready is same size kept has
       (λ keeps. subst (λ b. IsPoolRest g m n b (entries_of journal.map) disk) (sym second) (rest keeps)) outside
       (λ keeps h below i small. others keeps h i (none h below) small)
+
+-- and after all its pages were brought home
+pub ready_tidied : {D : Type 0} (g : Ghosts D) (store : PoolStore D) (disk : D) (journal : PoolJournal) (result : Result (Unit {0}) DiskFault) → IsReadyPool g store → TidiesPool g store.journal journal store.disk disk result
+    → OnOk result (IsReadyPool g (record { disk = disk; journal = journal; directory = store.directory; room = store.room }))
+ready_tidied g store disk journal (Err fault) ready tidies = tt
+ready_tidied g store disk journal (Ok done) ready tidies = ready_with g store disk journal store.room ready tidies.is tidies.sizes tidies.size tidies.kept ready.room
+    (λ keeps. (tidies.settled keeps).rest) (λ keeps. (tidies.settled keeps).outside) (λ keeps h below i small. (tidies.settled keeps).stands.each h i small)

@@ -1,6 +1,7 @@
 pub mod Files
 pub mod Pools
 pub mod Store
+pub mod Tidying
 pub mod Faults
 pub mod Reading
 pub mod Places

@@ -1,5 +1,5 @@
 -- An open store of layout 4.
-use Rattle.std.specs.Prelude.{ℕ, ◌*◌, ◌≤◌, ◌≡◌, Bool, List, length, Option, Some, None, Result, OnOk}
+use Rattle.std.specs.Prelude.{ℕ, ◌*◌, ◌≤◌, ◌≡◌, Bool, List, Option, Some, None, Result, OnOk, vec_capacity}
 use Rattle.std.specs.Option.{option_map}
 use Rattle.vm_types.specs.declared.{file.FileInfo.{FileInfo}, file.FilePage.{FilePage}}
 use Rattle.disk_model.specs.{Moments.{Touches, AsksOnly, Nothing}, Stop.{HasCause, Names}}
@@ -43,7 +43,7 @@ pub record IsDirectoryOn (n : ℕ) (directory : Directory) : Type 0 where
 
 -- room for a commit to as many slots as a pool with maps of m blocks has
 abbrev pub HasCommitRoom : ℕ → CommitRoom → Type 0
-HasCommitRoom m room = (1008 * m ≤ length room.places.items) × (1008 * m ≤ length room.homes.items)
+HasCommitRoom m room = (1008 * m ≤ vec_capacity room.places) × (1008 * m ≤ vec_capacity room.homes)
 
 module _ {D : Type 0} where
   -- the layout of a store

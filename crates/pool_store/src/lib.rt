@@ -31,6 +31,7 @@ mod resuming;
 mod room;
 mod sizes;
 mod store;
+mod tidying;
 
 pub use faults::OpenFault;
 pub use formatting::format;

@@ -1,5 +1,5 @@
 //! Room for the pages of a commit in the order of their homes.
-ghost use Rattle.std.specs.Prelude.{◌≡◌, ◌≤◌, ◌<◌, ◌*◌, ◌^◌, ℕ, Some, length, map, take, slice_get, IfOk};
+ghost use Rattle.std.specs.Prelude.{◌≡◌, ◌≤◌, ◌<◌, ◌*◌, ◌^◌, ℕ, Some, length, map, take, slice_get, vec_capacity, IfOk};
 ghost use Rattle.vm_types.specs.declared.file.FilePage.{FilePage};
 ghost use Rattle.file_store.specs.Standing.{IsPageOf};
 ghost use Rattle.pool_journal.specs.Sizes.{IsSized};
@@ -37,21 +37,37 @@ impl CommitRoom {
     {
         let slots = 2 * sizes.places() as usize;
         Ok(CommitRoom {
-            places: Vec::from_elem(alloc, Place { home: 0, index: 0 }, slots)?,
-            homes: Vec::from_elem(alloc, 0, slots)?,
+            places: Vec::with_capacity(alloc, slots)?,
+            homes: Vec::with_capacity(alloc, slots)?,
         })
     }
 
-    /// Puts pages that begin inside their files into the order of their homes, to the front.
+    /// Puts pages that begin inside their files into the order of their homes.
     pub(crate) fn place(&mut self, directory: &Directory, pages: &[FilePage])
         requires on { (homes : ℕ) × (homes ≤ 2 ^ 30) × IsDirectoryOn homes directory.now }
         requires inside { (i : ℕ) (p : FilePage) → slice_get pages.now i ≡ Some p → IsPageOf (info_by directory.now) p.file p.page }
         requires few { length pages.now < 2 ^ 32 }
-        requires room { (length pages.now ≤ length self.old.places.items) × (length pages.now ≤ length self.old.homes.items) }
+        requires room { (length pages.now ≤ vec_capacity self.old.places) × (length pages.now ≤ vec_capacity self.old.homes) }
         ensures order { PutsInOrder directory.now pages.now self.new.places.items self.new.homes.items }
-        ensures room { (length self.new.places.items ≡ length self.old.places.items) × (length self.new.homes.items ≡ length self.old.homes.items) }
+        ensures long { (length self.new.places.items ≡ length pages.now) × (length self.new.homes.items ≡ length pages.now) }
+        ensures room { (vec_capacity self.old.places ≤ vec_capacity self.new.places) × (vec_capacity self.old.homes ≤ vec_capacity self.new.homes) }
     {
+        self.hold(pages.len());
         order(directory, pages, &mut self.places, &mut self.homes);
+    }
+
+    /// Has so many places and homes, whatever they are: there is room for them.
+    fn hold(&mut self, count: usize)
+        requires room { (count ≤ vec_capacity self.old.places) × (count ≤ vec_capacity self.old.homes) }
+        ensures long { (length self.new.places.items ≡ count) × (length self.new.homes.items ≡ count) }
+        ensures room { (vec_capacity self.old.places ≤ vec_capacity self.new.places) × (vec_capacity self.old.homes ≤ vec_capacity self.new.homes) }
+    {
+        let Ok(()) = self.places.resize(count, Place { home: 0, index: 0 }) else {
+            unreachable!();
+        };
+        let Ok(()) = self.homes.resize(count, 0) else {
+            unreachable!();
+        };
     }
 }
 

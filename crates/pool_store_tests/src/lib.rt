@@ -7,3 +7,5 @@ mod bench;
 mod commits;
 #[cfg(test)]
 mod stores;
+#[cfg(test)]
+mod tidying;

@@ -150,6 +150,10 @@ impl Pool {
         self.journal.recover(&mut self.disk)
     }
 
+    pub(crate) fn tidy(&mut self) -> Result<(), DiskFault> {
+        self.journal.tidy(&mut self.disk)
+    }
+
     /// The device fails in that call from now on, the first being 1.
     pub(crate) fn fail_in(&mut self, call: u64) {
         let calls = self.disk.disk.calls();

@@ -9,3 +9,5 @@ mod commits;
 mod openings;
 #[cfg(test)]
 mod run_disk;
+#[cfg(test)]
+mod tidying;

@@ -3,7 +3,6 @@ use disk_model::SimDisk;
 use file_store::{FileSource, FormatFault, format};
 use std::fs;
 use std::test::Fail;
-use sync_journal::Journals;
 use test_steps::FileStep::{
     FillAt, Has, HasAt, IsFilledAt, IsLong, IsMissing, SetLength, Write, WriteAt,
 };
@@ -257,7 +256,7 @@ fn a_source_that_ends_early_is_a_fault(rt: HostRuntime) -> Result<(), Fail> {
         length: 5001,
         bytes: Some(&[b'A'; 5000]),
     }];
-    if format(&mut disk, Journals::Single, &mut sources) != Err(FormatFault::Source) {
+    if format(&mut disk, &mut sources) != Err(FormatFault::Source) {
         return Err(Fail::new("no fault of the source"));
     }
     match fs::metadata(&rt, CUT) {

@@ -19,3 +19,5 @@ mod runs;
 mod stops;
 #[cfg(test)]
 mod streams;
+#[cfg(test)]
+mod third_layout;

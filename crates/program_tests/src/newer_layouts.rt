@@ -1,5 +1,4 @@
-//! Images of layout 1, made anew in layout 2, images of layout 3, which are made or made anew of layout 2, and images of layouts 2 and 3, made anew in
-//! layout 4.
+//! Images of layout 1, made anew in layout 2, and images of layout 2, made anew in layout 4.
 use crate::devices::{UNSYNCED, has_unsynced};
 use std::test::Fail;
 use test_steps::FileStep::{
@@ -206,97 +205,17 @@ const TWO_DONE: &[u8] = b"pid 1\naddr 0x10000\nok\nok\nok\nok\n";
 /// The file then.
 const TWO_BYTES: &[(&[u8], usize)] = &[(b"\x5a", 1), (b"\0", 4095), (b"\x5b", 1), (b"\0", 4095)];
 
-/// The directory of a writable file of two pages.
-const TWO_PAGES: &[u8] = b"\x00\x00\x00\x80\x00\x20\x00\x00";
-
 /// Its entry in layout 4: flags, how many extents, the length, and first home and pages of the extent.
 const POOL_ENTRY: &[u8] = b"\x01\0\0\0\x01\0\0\0\x00\x20\0\0\0\0\0\0\x04\0\0\0\x02\0\0\0";
 
-/// Images of layout 3: 16,408 sectors come before the homes.
-const IN_TURN: [(&str, &[Step<'static>]); 3] = [
-    (
-        "new3",
-        &[
-            Does(Format, &["new3", "@image", "zero:8192"], b"", b""),
-            File("@image", IsLong(8_400_896 + 8192)),
-            // Mark and kind, the directory, and the gate and the first map, in blocks of 4,096 bytes.
-            File("@image", IsFilledAt(0, b"FAMSYNC3", 128)),
-            File("@image", HasAt(4608, TWO_PAGES)),
-            File("@image", IsFilledAt(8192, b"\0", 8192)),
-            Does(Run, &["@image", "@swap"], TWO_MSYNCS, TWO_DONE),
-            // The second msync took the first journal, and wrote the page of the second one home.
-            File("@image", HasAt(8192, b"\0")),
-            File("@image", IsFilledAt(8_400_896, b"\x5a", 1)),
-            Shows(&["@image", "0"], TWO_BYTES),
-            Fails(
-                Format,
-                &["new3", "@image", "zero:1"],
-                "pagefmt: format 3 FORMATTED\n",
-            ),
-            Fails(
-                Format,
-                &["new", "@image", "zero:1"],
-                "pagefmt: format 3 FORMATTED\n",
-            ),
-            Fails(
-                Format,
-                &["upgrade", "@image", "@new"],
-                "pagefmt: upgrade 2 OLDLAYOUT\n",
-            ),
-            Fails(
-                Format,
-                &["upgrade3", "@image", "@new"],
-                "pagefmt: upgrade 2 OLDLAYOUT\n",
-            ),
-            File("@new", IsMissing),
-            Shows(&["@image", "0"], TWO_BYTES),
-            Removes(&["@image", "@swap"]),
-        ],
-    ),
-    // The journal of the old image is open: its page stands, and not the one at home.
-    (
-        "upgrade3",
-        &[
-            Does(Format, &["new", "@image", "zero:8192"], b"", b""),
-            Does(Run, &["@image", "@swap"], TWO_MSYNCS, TWO_DONE),
-            Files(TwoFiles::Copy, "@image", "@before"),
-            Does(Format, &["upgrade3", "@image", "@new"], b"", b""),
-            Files(TwoFiles::Alike, "@image", "@before"),
-            File("@new", IsLong(8_400_896 + 8192)),
-            File("@new", IsFilledAt(0, b"FAMSYNC3", 128)),
-            File("@new", HasAt(4608, TWO_PAGES)),
-            Shows(&["@new", "0"], TWO_BYTES),
-            Fails(
-                Format,
-                &["upgrade3", "@image", "@new"],
-                "pagefmt: upgrade 6 FORMATTED\n",
-            ),
-            Shows(&["@new", "0"], TWO_BYTES),
-            Removes(&["@image", "@new", "@before", "@swap"]),
-        ],
-    ),
-    (
-        "words3",
-        &[
-            Refuses(Format, &["new3"]),
-            Refuses(Format, &["new3", "@image"]),
-            Refuses(Format, &["new2", "@image", "zero:1"]),
-            Refuses(Format, &["upgrade3", "@image"]),
-            Refuses(Format, &["upgrade3", "@image", "@new", "@new"]),
-            File("@image", IsMissing),
-        ],
-    ),
-];
-
 /// A refused upgrade takes back what it made.
 #[test]
-fn upgrades_are_refused_and_images_of_two_journals_are_used(rt: HostRuntime) -> Result<(), Fail> {
-    carry_out_all(&rt, &REFUSED)?;
-    carry_out_all(&rt, &IN_TURN)
+fn upgrades_are_refused(rt: HostRuntime) -> Result<(), Fail> {
+    carry_out_all(&rt, &REFUSED)
 }
 
 /// Images of layout 4, made of others whose second page stands in a journal alone.
-const TO_POOLS: [(&str, &[Step<'static>]); 4] = [
+const TO_POOLS: [(&str, &[Step<'static>]); 3] = [
     (
         "upgrade4",
         &[
@@ -330,26 +249,6 @@ const TO_POOLS: [(&str, &[Step<'static>]); 4] = [
             ),
             File("@other", IsMissing),
             Files(TwoFiles::Alike, "@image", "@before"),
-            Removes(&["@image", "@new", "@before", "@swap"]),
-        ],
-    ),
-    // Of layout 3: as many homes as layout 2 would have on its 16,424 sectors.
-    (
-        "upgrade4_of_3",
-        &[
-            Does(Format, &["new3", "@image", "zero:8192"], b"", b""),
-            Does(Run, &["@image", "@swap"], TWO_MSYNCS, TWO_DONE),
-            Files(TwoFiles::Copy, "@image", "@before"),
-            Does(
-                Format,
-                &["upgrade4", "--pool", "1009", "@image", "@new"],
-                b"",
-                b"",
-            ),
-            Files(TwoFiles::Alike, "@image", "@before"),
-            File("@new", IsLong(512 * (48 + 8080 * 2 + 8 * 1028))),
-            File("@new", HasAt(520, b"\x02\0\0\0\x04\0\0\0")),
-            Shows(&["@new", "0"], TWO_BYTES),
             Removes(&["@image", "@new", "@before", "@swap"]),
         ],
     ),
@@ -393,13 +292,13 @@ const TO_POOLS: [(&str, &[Step<'static>]); 4] = [
             Refuses(Format, &["upgrade4", "@image"]),
             Refuses(Format, &["upgrade4", "@image", "@new", "@new"]),
             Refuses(Format, &["upgrade4", "--pool", "0", "@image", "@new"]),
-            Refuses(Format, &["upgrade3", "--pool", "1", "@image", "@new"]),
+            Refuses(Format, &["upgrade", "--pool", "1", "@image", "@new"]),
             File("@new", IsMissing),
         ],
     ),
 ];
 
 #[test]
-fn images_of_journals_are_made_anew_with_a_pool(rt: HostRuntime) -> Result<(), Fail> {
+fn images_of_layout_2_are_made_anew_with_a_pool(rt: HostRuntime) -> Result<(), Fail> {
     carry_out_all(&rt, &TO_POOLS)
 }

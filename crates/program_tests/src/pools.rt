@@ -1,7 +1,7 @@
 //! Images of layout 4, whose pages stay in a pool.
 use std::test::Fail;
 use test_steps::FileStep::{HasAt, IsFilledAt, IsLong, IsMissing};
-use test_steps::Program::{Format, Run};
+use test_steps::Program::{Format, Run, Stops};
 use test_steps::Step::{self, Does, Fails, File, Refuses, Removes, Shows};
 use test_steps::carry_out_all;
 
@@ -29,7 +29,7 @@ const POOLS: [(&str, &[Step<'static>]); 3] = [
             ),
             Fails(
                 Format,
-                &["upgrade3", "@image", "@new"],
+                &["upgrade", "@image", "@new"],
                 "pagefmt: upgrade 2 OLDLAYOUT\n",
             ),
             File("@new", IsMissing),
@@ -88,7 +88,12 @@ const POOLS: [(&str, &[Step<'static>]); 3] = [
             Refuses(Format, &["new4", "@image"]),
             Refuses(Format, &["new4", "--pool", "0", "@image", "zero:1"]),
             Refuses(Format, &["new4", "--pool", "2064385", "@image", "zero:1"]),
-            Refuses(Format, &["new3", "--pool", "1", "@image", "zero:1"]),
+            Refuses(Format, &["new", "--pool", "1", "@image", "zero:1"]),
+            // Words of which none makes a store.
+            Refuses(Format, &["new2", "@image", "zero:1"]),
+            Refuses(Format, &["new3", "@image", "zero:1"]),
+            Refuses(Format, &["upgrade3", "@image", "@new"]),
+            Refuses(Stops, &["--layout", "3", "zero:1"]),
             File("@image", IsMissing),
         ],
     ),

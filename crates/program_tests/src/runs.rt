@@ -3,7 +3,6 @@ use disk_model::SimDisk;
 use file_store::{FileSource, format};
 use programs::{ShowFault, show};
 use std::test::Fail;
-use sync_journal::Journals;
 use test_steps::FileStep::{FillAt, IsFilledAt, IsLong, SetLength, Write, WriteAt};
 use test_steps::Program::{Cat, Format, Run};
 use test_steps::Step::{self, Does, Fails, File, Files, Removes, Shows};
@@ -287,7 +286,7 @@ fn a_device_is_handed_back(rt: HostRuntime) -> Result<(), Fail> {
         length: 3,
         bytes: Some(b"abc"),
     }];
-    format(&mut disk, Journals::Single, &mut sources)?;
+    format(&mut disk, &mut sources)?;
     let mut output = Vec::new(rt.alloc());
     let Err((fault, disk)) = show(rt.alloc(), disk, 1, &mut output) else {
         return Err(Fail::new("there is no file 1"));

@@ -2,7 +2,6 @@
 use std::test::Fail;
 use stop_trials::{Event, Trial};
 use stores::NewStore;
-use sync_journal::Journals;
 use test_steps::Program::Stops;
 use test_steps::Step::{self, Does, Fails};
 use test_steps::{ProgramCall, carry_out, ran_over, same, same_number};
@@ -32,15 +31,8 @@ const TWO_MSYNCS: &[u8] =
 store 1 0x10000 1 0x5b\nmsync 1 0x10000 4096 sync\n";
 
 /// Some events, and traces whose msyncs write nothing.
-const SOME: [Step<'static>; 5] = [
-    // The gates of two journals in turn: what opens a gate names the second one, and any other bytes the first.
-    Does(
-        Stops,
-        &["--layout", "3", "--every", "19", "zero:1"],
-        TWO_MSYNCS,
-        b"stop 19 gate acknowledged 0 left 0 0 0 0 1\nstop 38 gate acknowledged 1 left 1 2 2 2 1\nstops 2 recoveries 10 bad 0\n",
-    ),
-    // Those of the two maps of a pool likewise.
+const SOME: [Step<'static>; 4] = [
+    // The gates of a pool: what opens a gate names the second map, and any other bytes the first.
     Does(
         Stops,
         &["--layout", "4", "--every", "19", "zero:1"],
@@ -112,7 +104,7 @@ fn a_stop_that_loses_an_acknowledged_msync_is_bad(rt: HostRuntime) -> Result<(),
     let trial = Trial {
         number: 12,
         event: Event::Sync,
-        store: NewStore::Journals(Journals::Single),
+        store: NewStore::Journal,
         acknowledged: 2,
         standing: [Some(2), Some(3), None, Some(2), Some(2)],
     };

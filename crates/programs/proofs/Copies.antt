@@ -7,7 +7,7 @@ use Rattle.file_store.specs.{Standing.{bytes_of_pages, directory_entry, standing
 use Rattle.{directories.specs.declared.entry.Entry.{Entry as PoolEntry}, pool_journal.specs.Pools.{pool_standing}}
 use Rattle.pool_store.{proofs.{Entries.{entry_stood}, Homes.{entry_there, page_home}}, specs.{Files.{page_at as page_at_home, page_of}, Store.{entry_of as pool_entry_of, home_by}}}
 use Rattle.stores.{proofs.{KindOpens.{in_kind}, PoolOpens.{by_head}, Said.{files_said}, Says.{head_of}}, specs.{Images.{ImageSays, StandsFor, standing_page, standing_file}, Opened.{OpensFrom}, Store.{IsReadyStore, disk_of, files_of}}}
-use Rattle.stores.specs.declared.{faults.OpenFault.{OpenFault}, store.{Store.{Store}, Store.TheVariants.{Journals, Pool}}}
+use Rattle.stores.specs.declared.{faults.OpenFault.{OpenFault}, store.{Store.{Store}, Store.TheVariants.{Journal, Pool}}}
 use Rattle.{runner.specs.Bytes.{WritesBeginning}, programs.specs.declared.showing.ShowFault.{ShowFault, TheVariants.{Open as OpenFailed}}}
 
 -- why an image could not be opened, or another fault where it was
@@ -109,7 +109,7 @@ module _ {D : Type 0} (g : Ghosts D) where
   -- the pages of a file of an open store are whole
   whole_pages : (store : Store D) (f : ℕ) (info : FileInfo) → IsReadyStore g store → g.keeps_model (disk_of store) → files_of store f ≡ Some info
       → AreWhole (pages_of_length info.length) (standing_page (g.sector_count (disk_of store)) (g.content (disk_of store)) f)
-  whole_pages (Journals store) f info ready keeps file =
+  whole_pages (Journal store) f info ready keeps file =
       let image = g.content store.disk in
       let entry = has_entry (entry_of store.directory f) info file in
       in_kind (λ said. AreWhole (pages_of_length info.length) (said.page f)) (g.sector_count store.disk) image (ready.1 keeps)

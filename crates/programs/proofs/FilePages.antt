@@ -1,8 +1,8 @@
 -- In which sectors of an image the pages of a file stand, where its store was opened.
 use Rattle.{std.proofs.{Common.{◌≡◌, ◌⊎◌, ℕ, Bool, false, ◌<◌, ◌≤◌, ◌+◌, ◌*◌, List, [], Option, Some, None, refl, sym, ap, subst, ◌∙◌, ⊎_elim, inl, inr, arith}, lemmas.Option.{none-some, same_Some}}, std.specs.Option.{option_map}}
 use Rattle.{disk_model.specs.{Moments.{Touches}, Stop.{Image}, declared.sector_disk.SectorDisk.{Ghosts}}, vm_types.specs.declared.file.FileInfo.{FileInfo}}
-use Rattle.sync_journal.specs.{Kinds.{is_kind, kind_when, kind_of, kind_home, journal_kind, store_live, by_kind}, Layout.{IsPageSector}, Map.{place_among, home_rank}, Standing.{place_or_home}, Turns.{turn_stands}}
-use Rattle.sync_journal.specs.declared.store_journal.{Journals.{Journals as Kinds}, StoreJournal.{StoreJournal, TheVariants.{One, InTurn}}}
+use Rattle.sync_journal.specs.{Commit.{one_journal}, Journal.{live_homes}, Layout.{IsPageSector, home_sector}, Map.{place_among, home_rank}, Standing.{place_or_home}}
+use Rattle.sync_journal.specs.declared.journal.Journal.{Journal as OneJournal}
 use Rattle.file_store.{proofs.Images.{same_head, entry_same}, specs.{Standing.{directory_entry}, Store.{entry_of, entry_home, home_of}, declared.{directory.{Directory.{Directory}, Entry.{Entry}}, store.FileStore.{FileStore}}}}
 use Rattle.pool_journal.{proofs.Loose.{firm_page, slot_same, stood}, specs.{Maps.{entries_of}, Pools.{pool, pool_entry, pool_gate, pool_home_count, pool_named, pool_stands, pool_standing, slot_by, IsLoose}}}
 use Rattle.directories.specs.{Homes.{home_of_page}, declared.entry.Entry.{Entry as PoolEntry}}
@@ -10,13 +10,12 @@ use Rattle.pool_store.{proofs.{Entries.{entry_stood}, Standing.{AreAlike, entry_
 use Rattle.pool_store.specs.Store as InPool
 use Rattle.stores.proofs.{Heads.{blocks_are, same_blocks, same_mark, same_pages}, PoolOpens.{of_head}, Said.{kind_outside, mark_outside}, Says.{IsHeaded, head_of}}
 use Rattle.stores.specs.{Images.{ImageSays, directory_pages, is_pool, says_by}, Opened.{OpensFrom}}
-use Rattle.{stores.specs.{Store.{disk_of}, declared.store.{Store.{Store}, Store.TheVariants.{Journals, Pool}}}, programs.{proofs.Copies.{has_entry}, specs.Showing.{IsInPagesOf, IsInHomesOf, IsSectorOfFile}}}
+use Rattle.{stores.specs.{Store.{disk_of}, declared.store.{Store.{Store}, Store.TheVariants.{Journal, Pool}}}, programs.{proofs.Copies.{has_entry}, specs.Showing.{IsInPagesOf, IsInHomesOf, IsSectorOfFile}}}
 
--- where nothing stands in a journal alone, a page stands in its home
-at_home : (journal : StoreJournal) (h k : ℕ) → store_live journal ≡ [] → IsPageSector (by_kind.stands_at journal h) k → IsPageSector (kind_home (journal_kind journal) h) k
+-- where nothing stands in the journal alone, a page stands in its home
+at_home : (journal : OneJournal) (h k : ℕ) → live_homes journal ≡ [] → IsPageSector (one_journal.stands_at (live_homes journal) h) k → IsPageSector (home_sector h) k
 unfolding place_among
-at_home (One journal) h k none sector = subst (λ (s : List ℕ). IsPageSector (place_or_home h (home_rank s h)) k) none sector
-at_home (InTurn journal) h k none sector = subst (λ (s : List ℕ). IsPageSector (turn_stands journal.second h (home_rank s h)) k) none sector
+at_home journal h k none sector = subst (λ (s : List ℕ). IsPageSector (place_or_home h (home_rank s h)) k) none sector
 
 -- the home of a page
 first_and_page : (directory : Directory) (f page : ℕ) (entry : Entry) → entry_of directory f ≡ Some entry → home_of directory (record { file = f; page = page }) ≡ entry.first + page
@@ -40,20 +39,19 @@ module _ {D : Type 0} (g : Ghosts D) (old : D) where
   abbrev image : Image
   image = g.content old
 
-  -- The store that was opened has layout 2 or 3:
-  module _ (store : FileStore D) (opened : OpensFrom g old (Journals store)) (keeps : g.keeps_model store.disk) where
+  -- The store that was opened has layout 2:
+  module _ (store : FileStore D) (opened : OpensFrom g old (Journal store)) (keeps : g.keeps_model store.disk) where
     unmarked : is_pool image ≡ false
     unmarked = same_mark (g.content store.disk) image (sym (opened.outside keeps 0 (mark_outside sectors image))) ∙ opened.ready.1 keeps
 
-    around : (k : ℕ) → by_kind.IsOutside image sectors k → g.content store.disk k ≡ image k
+    around : (k : ℕ) → one_journal.IsOutside image sectors k → g.content store.disk k ≡ image k
     around = subst (λ b. (k : ℕ) → (says_by b sectors image).IsOutside k → g.content store.disk k ≡ image k) unmarked (opened.outside keeps)
 
     -- the sectors of its files are those of their homes.
-    in_homes : (f k : ℕ) → IsSectorOfFile (Journals store) f k → IsInHomesOf image f k
+    in_homes : (f k : ℕ) → IsSectorOfFile (Journal store) f k → IsInHomesOf image f k
     in_homes f k sector =
         let head = same_head sectors image (g.content store.disk) around in
         let rest = opened.ready.0.at_rest keeps in
-        let kind : kind_of image ≡ journal_kind store.journal = sym (ap (λ (s : List ℕ). kind_when (is_kind s)) head.kind) ∙ rest.journal.kind in
         let same : entry_of store.directory f ≡ directory_entry image f = rest.directory f ∙ entry_same image (g.content store.disk) head f in
         let page = sector.0 in
         let info = sector.1.0 in
@@ -66,12 +64,10 @@ module _ {D : Type 0} (g : Ghosts D) (old : D) where
           entry.first + page,
           sym same ∙ found.1,
           (omega arith, omega (arith, inside)),
-          subst (λ (h : ℕ). IsPageSector (kind_home (kind_of image) h) k) home
-              (subst (λ (j : Kinds). IsPageSector (kind_home j (home_of store.directory (record { file = f; page = page }))) k) (sym kind)
-              (at_home store.journal _ k (opened.carried keeps) sector.2)),
+          subst (λ (h : ℕ). IsPageSector (home_sector h) k) home (at_home store.journal _ k (opened.carried keeps) sector.2),
         )
 
-    in_file_of_kind : (f k : ℕ) → IsSectorOfFile (Journals store) f k → IsInPagesOf (is_pool image) sectors image f k
+    in_file_of_kind : (f k : ℕ) → IsSectorOfFile (Journal store) f k → IsInPagesOf (is_pool image) sectors image f k
     in_file_of_kind f k sector = subst (λ b. IsInPagesOf b sectors image f k) (sym unmarked) (in_homes f k sector)
 
   -- Or it has a pool.
@@ -145,5 +141,5 @@ module _ {D : Type 0} (g : Ghosts D) (old : D) where
 
   -- The sectors of an opened store's file are those of the image.
   pub in_file : (store : Store D) (f k : ℕ) → OpensFrom g old store → g.keeps_model (disk_of store) → IsSectorOfFile store f k → IsInPagesOf (is_pool image) sectors image f k
-  in_file (Journals store) f k opened keeps sector = in_file_of_kind store opened keeps f k sector
+  in_file (Journal store) f k opened keeps sector = in_file_of_kind store opened keeps f k sector
   in_file (Pool store) f k opened keeps sector = in_file_of_pool store opened keeps f k sector

@@ -6,8 +6,7 @@ use Rattle.disk_model.specs.Moments.{AsksOnly, LeavesOnly, Nothing, Touches}
 use Rattle.disk_model.specs.declared.sector_disk.SectorDisk.{Ghosts}
 use Rattle.vm_types.specs.declared.file.FileInfo.{FileInfo}
 use Rattle.vm_types.specs.declared.file.FilePage.{FilePage}
-use Rattle.sync_journal.specs.Layout.{IsPageSector}
-use Rattle.sync_journal.specs.Kinds.{kind_of, kind_home}
+use Rattle.sync_journal.specs.Layout.{IsPageSector, home_sector}
 use Rattle.file_store.specs.declared.directory.Entry.{Entry}
 use Rattle.stores.specs.declared.faults.OpenFault.{OpenFault}
 use Rattle.stores.specs.declared.faults.OpenFault.TheVariants.{Device, BadLayout, BadJournal}
@@ -22,9 +21,9 @@ use Rattle.runner.specs.Bytes.{WritesBeginning}
 use Rattle.programs.specs.declared.showing.ShowFault.{ShowFault}
 use Rattle.programs.specs.declared.showing.ShowFault.TheVariants.{Open, NoFile, Read}
 
--- a sector of a home of file f of a store of layout 2 or 3, by the directory of the image
+-- a sector of a home of file f of a store of layout 2, by the directory of the image
 abbrev pub IsInHomesOf : Image → ℕ → ℕ → Type 0
-IsInHomesOf image f k = (entry : Entry) × (home : ℕ) × (directory_entry image f ≡ Some entry) × IsHomeOf entry home × IsPageSector (kind_home (kind_of image) home) k
+IsInHomesOf image f k = (entry : Entry) × (home : ℕ) × (directory_entry image f ≡ Some entry) × IsHomeOf entry home × IsPageSector (home_sector home) k
 
 -- how a pool's image gives the slots: the map that its gate names
 abbrev pub map_named : ℕ → Image → Bool × (Bool → ℕ → ℕ)
@@ -81,7 +80,7 @@ module _ {D : Type 0} (g : Ghosts D) where
   pub record KeepsToFile (f : ℕ) (old new : D) : Type 0 where
     -- no sector was asked for but those that an opening asks for, and the pages of the file
     pub asks : g.keeps_model new → AsksOnly g (IsAskedToShow (g.sector_count old) (g.content old) f) old new
-    -- what lies outside of journals, pool and homes is as it was
+    -- what lies outside of journal, pool and homes is as it was
     pub outside : g.keeps_model new → (k : ℕ) → IsOutside (g.sector_count old) (g.content old) k → g.content new k ≡ g.content old k
 
   -- Whatever comes of a showing of file f, it changes nothing of what the device stands for:

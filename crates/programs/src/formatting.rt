@@ -25,16 +25,13 @@ use vm_types::FILES;
 /// every fault leaves IMAGE with its bytes and its length, or unmakes it again; only a file that another program locks first
 /// is left to it.
 ///
-/// `pagefmt new3 IMAGE SPEC...` does the same with a store of two journals in turn, whose image has `512 * (16408 + 8 H)` bytes.
-///
-/// `pagefmt new4 [--pool PAGES] IMAGE SPEC...` does so with a store that has a pool of PAGES slots at least, 4,032 where none is given: they are made in steps
+/// `pagefmt new4 [--pool PAGES] IMAGE SPEC...` does the same with a store that has a pool of PAGES slots at least, 4,032 where none is given: they are made in steps
 /// of 1,008, each with `512 * 8080` bytes of the image, which has 24,576 more, and a page for each home page.
 ///
 /// `pagefmt upgrade OLD NEW`: makes NEW where it is missing, lengthens it so that it has as many home pages as OLD, an image of
 /// layout 1, and makes a store on it that stands for what OLD stands for. OLD is only read. Until something is written to NEW,
-/// every fault leaves it as it was, or unmakes it again. `pagefmt upgrade3 OLD NEW` does the same with an OLD of layout 2 and a NEW of
-/// layout 3, that of two journals in turn, and `pagefmt upgrade4 [--pool PAGES] OLD NEW` with an OLD of layout 2 or 3 and a NEW with a
-/// pool as `new4` makes it.
+/// every fault leaves it as it was, or unmakes it again. `pagefmt upgrade4 [--pool PAGES] OLD NEW` does the same with an OLD of layout 2
+/// or 3 and a NEW with a pool as `new4` makes it.
 ///
 /// An image that can't be had is not opened, and one that can't be synced is the fault of its device, which comes where the
 /// image is looked at: OLD and NEW are both opened before OLD is, and NEW is looked at once OLD is found good.

@@ -11,7 +11,7 @@ use file_store::UpgradeFault;
 use host_files::{Opening, open_alone};
 use std::fs::{File, Files};
 use stores::{NewStore, image_bytes};
-use sync_journal::{Journals, home_count, old_home_count};
+use sync_journal::{Version, home_count};
 use vm_types::PAGE_BYTES;
 
 /// Makes a store in NEW that stands for what the image OLD stands for.
@@ -24,7 +24,7 @@ pub(crate) fn upgrade_image<
     requires { IsSizedNew words.store }
 {
     let _places = held_places(rt)?;
-    let old = disk_in::<C>(words.old, open_alone(rt, words.old, Opening::Read))?;
+    let mut old = disk_in::<C>(words.old, open_alone(rt, words.old, Opening::Read))?;
     let (file, former) = match image_file(rt, words.new) {
         Ok(opened) => opened,
         Err(_) => return Err(ProgramFault::CannotOpen(words.new)),
@@ -37,8 +37,7 @@ pub(crate) fn upgrade_image<
             return Err(fault);
         }
     };
-    let (_old, made) = upgrade_settled(old, &mut new, words.store);
-    match made {
+    match upgrade_settled(&mut old, &mut new, words.store) {
         Ok(()) => Ok(()),
         Err(fault) => {
             if !new.is_written() {
@@ -49,39 +48,34 @@ pub(crate) fn upgrade_image<
     }
 }
 
-/// Makes the store on NEW, and gives OLD back, which keeps its lock. A file that could not be synced is the fault of its device,
-/// whatever its length is: OLD before it is looked at, and NEW once OLD is found good.
+/// Makes the store on NEW. A file that could not be synced is the fault of its device, whatever its length is: OLD before it is looked at,
+/// and NEW once OLD is found good.
 fn upgrade_settled<C: FileContents, K: FileContents>(
-    old: FileDisk<C>,
+    old: &mut FileDisk<C>,
     new: &mut FileDisk<K>,
     store: NewStore,
-) -> (FileDisk<C>, Result<(), UpgradeFault>)
+) -> Result<(), UpgradeFault>
     requires { IsSizedNew store }
 {
     if !old.is_settled() {
-        return (old, Err(UpgradeFault::OldDevice));
+        return Err(UpgradeFault::OldDevice);
     }
-    let (old, made) = upgrade(old, new, store);
-    match made {
-        Err(UpgradeFault::NewSmall) if !new.is_settled() => (old, Err(UpgradeFault::NewDevice)),
-        made => (old, made),
+    match upgrade(old, new, store) {
+        Err(UpgradeFault::NewSmall) if !new.is_settled() => Err(UpgradeFault::NewDevice),
+        made => made,
     }
 }
 
 /// Makes the store on NEW, by the crate of its layout.
 fn upgrade<D: SectorDisk, E: SectorDisk>(
-    old: D,
+    old: &mut D,
     new: &mut E,
     store: NewStore,
-) -> (D, Result<(), UpgradeFault>)
+) -> Result<(), UpgradeFault>
     requires { IsSizedNew store }
 {
     match store {
-        NewStore::Journals(journals) => {
-            let mut old = old;
-            let made = file_store::upgrade(&mut old, new, journals);
-            (old, made)
-        }
+        NewStore::Journal => file_store::upgrade(old, new),
         NewStore::Pool(blocks) => upgrades::upgrade(old, new, blocks),
     }
 }
@@ -92,8 +86,8 @@ fn upgraded_bytes(store: NewStore, sectors: u64) -> u64
     requires { IsSizedNew store }
 {
     let homes = match store {
-        NewStore::Journals(Journals::Single) => old_home_count(sectors),
-        NewStore::Journals(Journals::Paired) | NewStore::Pool(_) => home_count(sectors),
+        NewStore::Journal => Version::One.home_count(sectors),
+        NewStore::Pool(_) => home_count(sectors),
     };
     image_bytes::<File>(store, &[]).saturating_add(PAGE_BYTES as u64 * homes)
 }

@@ -9,7 +9,6 @@ use runner::RunEnd;
 use serving::{REQUEST_BYTES, serve};
 use std::fmt::Debug;
 use std::process::Abort;
-use sync_journal::Journals;
 use vm_types::{Mode, Pid, USER_START};
 
 /// The page at 0x10000 is of zeros, and may be read and written.
@@ -84,7 +83,7 @@ fn formatted(rt: &(impl AllocGlobal + Abort)) -> SimDisk {
         length: 4096,
         bytes: None,
     }];
-    format(&mut disk, Journals::Single, &mut files).expect(rt, "a store");
+    format(&mut disk, &mut files).expect(rt, "a store");
     disk
 }
 

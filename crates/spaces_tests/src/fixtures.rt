@@ -11,7 +11,7 @@ use std::alloc::Global;
 use std::test::Fail;
 use stores::{OpenFault, Store};
 use swap::Swap;
-use sync_journal::{FIRST_HOME, Journals};
+use sync_journal::FIRST_HOME;
 use vm_types::Levels;
 
 /// How large memory, its swap and its one file are, and which call of each device fails, the first being 1; 0 is none.
@@ -39,7 +39,7 @@ fn image(alloc: Global, sizes: Sizes) -> Result<SimDisk, Fail> {
         length: sizes.length,
         bytes: None,
     }];
-    format(&mut disk, Journals::Single, &mut files)?;
+    format(&mut disk, &mut files)?;
     begin_file(&mut disk, sizes.first)?;
     Ok(disk.left(alloc, &[])?)
 }
@@ -62,7 +62,7 @@ fn opened(alloc: Global, disk: SimDisk) -> Result<Store<SimDisk>, OpenFault>
     ensures bounded { IfOk result (λ store. AreBounded (files_of store)) }
 {
     match Store::open(alloc, disk) {
-        Ok(Store::Journals(store)) => Ok(Store::Journals(store)),
+        Ok(Store::Journal(store)) => Ok(Store::Journal(store)),
         Ok(Store::Pool(_)) => Err(OpenFault::BadLayout),
         Err((fault, _)) => Err(fault),
     }

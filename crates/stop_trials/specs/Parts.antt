@@ -1,13 +1,10 @@
 -- The parts of a store's image, by sectors.
 use Rattle.std.specs.Prelude.{◌≡◌, ◌+◌, ◌*◌, ℕ, true, false, ◌==◌, nat_lt, if◌then◌else◌, refl}
 use Rattle.sync_journal.specs.Layout.{gate_sector, first_body_sector, first_home_sector}
-use Rattle.sync_journal.specs.Turns.{turn_gate, turn_homes, turn_body, start_of}
-use Rattle.sync_journal.specs.declared.store_journal.Journals.{Journals}
-use Rattle.sync_journal.specs.declared.store_journal.Journals.TheVariants.{Single, Paired}
 use Rattle.pool_journal.specs.Pools.{pool_gate, pool_start, pool_home}
 use Rattle.pool_store.specs.Format.{new_pages}
 use Rattle.stores.specs.declared.new_stores.NewStore.{NewStore}
-use Rattle.stores.specs.declared.new_stores.NewStore.TheVariants.{Journals as OfJournals, Pool}
+use Rattle.stores.specs.declared.new_stores.NewStore.TheVariants.{Journal, Pool}
 use Rattle.stop_trials.specs.declared.parts.Part.{Part}
 use Rattle.stop_trials.specs.declared.parts.Part.TheVariants.{Mark, Kind, Directory, Gate, Map, Body, Home}
 
@@ -18,18 +15,6 @@ part_at sector =
     else (if sector == gate_sector then Gate
     else (if nat_lt sector first_body_sector then Map
     else (if nat_lt sector first_home_sector then Body else Home))))
-
--- of two journals in turn
-abbrev pub part_in_turn : ℕ → Part
-part_in_turn sector =
-    if sector == 0 then Mark
-    else (if sector == 1 then Kind
-    else (if sector == 9 then Directory
-    else (if sector == turn_gate then Gate
-    else (if nat_lt sector (turn_body false 0) then Map
-    else (if nat_lt sector (start_of true) then Body
-    else (if nat_lt sector (turn_body true 0) then Map
-    else (if nat_lt sector turn_homes then Body else Home)))))))
 
 -- of a new pool with maps of m blocks, whose directory is the first homes
 abbrev pub part_in_pool : ℕ → ℕ → Part
@@ -43,12 +28,8 @@ part_in_pool m sector =
     else (if nat_lt sector (pool_home m 0) then Body
     else (if nat_lt sector (pool_home m new_pages) then Directory else Home)))))))
 
-abbrev pub journals_part : Journals → ℕ → Part
-journals_part Single sector = part_at sector
-journals_part Paired sector = part_in_turn sector
-
 abbrev pub store_part : NewStore → ℕ → Part
-store_part (OfJournals journals) sector = journals_part journals sector
+store_part Journal sector = part_at sector
 store_part (Pool blocks) sector = part_in_pool blocks sector
 
 pub last_of_the_map : part_at 10 ≡ Map

@@ -2,33 +2,30 @@
 ghost use Rattle.std.specs.Prelude.{◌≡◌};
 ghost use Rattle.stores.specs.NewStores.{IsSizedNew};
 ghost use Rattle.directories.specs.Kinds.{IsMapSize};
-ghost use Rattle.stop_trials.specs.Parts.{journals_part, part_at, part_in_pool, part_in_turn, store_part};
+ghost use Rattle.stop_trials.specs.Parts.{part_at, part_in_pool, store_part};
 
 use crate::stopping::Event;
-use file_store::{DIRECTORY_SECTOR, KIND_SECTOR, MARK_SECTOR, TURN_DIRECTORY};
+use file_store::{DIRECTORY_SECTOR, KIND_SECTOR, MARK_SECTOR};
 use pool_journal::{BLOCK_SLOTS, POOL_GATE, PoolSizes};
 use pool_store::DIRECTORY_PAGES;
 use std::fmt::{self, Display, Formatter};
 use stores::NewStore;
-use sync_journal::{
-    BODY, FIRST_BODY, FIRST_HOME, GATE, Journals, PAGE_SECTORS, SECOND_BODY, SECOND_MAP, TURN_GATE,
-    TURN_HOMES,
-};
+use sync_journal::{BODY, FIRST_HOME, GATE, PAGE_SECTORS};
 
 /// A part of a store's image. `Display` gives its name.
 #[derive(Clone, Copy)]
 pub(crate) enum Part {
     /// The layout mark.
     Mark,
-    /// The kind of a store of two journals or of a pool.
+    /// The kind of a store with a pool.
     Kind,
     /// The directory of files.
     Directory,
     /// The gate.
     Gate,
-    /// A map of a journal or of a pool.
+    /// The map of the journal, or one of a pool.
     Map,
-    /// The body of a journal, or of a pool.
+    /// The body of the journal, or one of a pool.
     Body,
     /// The home pages.
     Home,
@@ -41,8 +38,7 @@ impl Part {
         ensures { result ≡ store_part store sector }
     {
         match store {
-            NewStore::Journals(Journals::Single) => Part::of_one(sector),
-            NewStore::Journals(Journals::Paired) => Part::of_two(sector),
+            NewStore::Journal => Part::of_journal(sector),
             NewStore::Pool(blocks) => Part::of_pool(blocks, sector),
         }
     }
@@ -68,23 +64,7 @@ impl Part {
         }
     }
 
-    fn of_two(sector: u64) -> Part
-        ensures { result ≡ part_in_turn sector }
-    {
-        match sector {
-            MARK_SECTOR => Part::Mark,
-            KIND_SECTOR => Part::Kind,
-            TURN_DIRECTORY => Part::Directory,
-            TURN_GATE => Part::Gate,
-            _ if sector < FIRST_BODY => Part::Map,
-            _ if sector < SECOND_MAP => Part::Body,
-            _ if sector < SECOND_BODY => Part::Map,
-            _ if sector < TURN_HOMES => Part::Body,
-            _ => Part::Home,
-        }
-    }
-
-    fn of_one(sector: u64) -> Part
+    fn of_journal(sector: u64) -> Part
         ensures { result ≡ part_at sector }
     {
         match sector {

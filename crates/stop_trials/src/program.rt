@@ -17,8 +17,8 @@ use stores::{format, image_bytes};
 use trace_lang::parse_line;
 use vm_types::{Command, Mode};
 
-/// `pagestops [--every K] [--drop K] [--layout 2|3|4] [--frames N] [--slots N] SPEC...`: formats a store of layout 2, or of
-/// layout 3 or 4 where that is asked for, of 4 with a pool of 4,032 pages, in memory for the specs, as `pagefmt` does an image,
+/// `pagestops [--every K] [--drop K] [--layout 2|4] [--frames N] [--slots N] SPEC...`: formats a store of layout 2, or of
+/// layout 4 where that is asked for, with a pool of 4,032 pages, in memory for the specs, as `pagefmt` does an image,
 /// and runs the trace of `reader` on it. The run is stopped in each event of the store's device, a write of a sector or a
 /// sync, or in each Kth; what is left is recovered with five fillings of the sectors that were not synced (`Filling`), and
 /// a line on `writer` says after how many msyncs the files stand. The last line counts the stops, the recoveries and the bad

@@ -11,9 +11,6 @@ use std::test::Fail;
 use stores::{OpenFault, Store};
 use vm_types::FilePage;
 
-/// The first sector of the homes of layout 3, as the format has it.
-const TURN_HOMES: u64 = 16_408;
-
 /// Fails where something does not hold.
 pub(crate) fn expect(holds: bool, otherwise: &str) -> Result<(), Fail> {
     if holds {
@@ -113,7 +110,7 @@ fn are_same(one: &SimDisk, other: &SimDisk) -> bool {
 }
 
 /// The device after a stop, with these bytes in each unsynced sector, or where there are none with what was synced: heads, the
-/// fronts of the journals of layout 3, and the homes of either layout.
+/// front of the journal, and the homes.
 pub(crate) fn left(
     alloc: Global,
     disk: &SimDisk,
@@ -122,7 +119,7 @@ pub(crate) fn left(
     let mut chosen = Vec::new(alloc);
     if let Some(bytes) = fill {
         for n in 0..disk.sectors() {
-            if n < 40 || (8195 <= n && n < 8232) || TURN_HOMES <= n {
+            if n < 40 || 8195 <= n {
                 chosen.push((n, bytes))?;
             }
         }
@@ -131,14 +128,14 @@ pub(crate) fn left(
 }
 
 /// Sees that what a stop leaves of a new store has no mark or is the whole store, whatever the unsynced sectors then hold: their
-/// old bytes, zeros, ones, half of a mark or all of either. It has the mark where all of the mark's own write reached the device.
+/// old bytes, zeros, ones, half of the mark, all of it or the mark of a pool. It has the mark where all of the mark's own write reached the device.
 pub(crate) fn check_left(
     alloc: Global,
     stopped: &SimDisk,
     at_mark: bool,
     whole: &SimDisk,
-    mark: [u8; 512],
 ) -> Result<(), Fail> {
+    let mark = repeated(b"FAMSYNC2");
     let mut half = mark;
     half[256..].fill(0);
     for fill in [
@@ -146,8 +143,8 @@ pub(crate) fn check_left(
         Some([0; 512]),
         Some([0xff; 512]),
         Some(half),
-        Some(repeated(b"FAMSYNC2")),
-        Some(repeated(b"FAMSYNC3")),
+        Some(mark),
+        Some(repeated(b"FAMSYNC4")),
     ] {
         let image = left(alloc, stopped, fill)?;
         let marked = holds(&image, &[(0, mark)]);

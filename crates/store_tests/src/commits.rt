@@ -1,7 +1,7 @@
 //! Stores on a device in memory.
 ghost use Rattle.std.specs.Prelude.{OnOk, replicate, if◌then◌else◌};
 ghost use Rattle.stores.specs.Commit.{ArePages};
-ghost use Rattle.stores.specs.Store.{files_of, least_of, free_of, IsReadyStore};
+ghost use Rattle.stores.specs.Store.{files_of, free_of, IsReadyStore};
 
 use crate::bench::{equal, expect, first_byte, holds, image, opened, put, repeated, sector_with};
 use batches::check_pages;
@@ -17,8 +17,8 @@ const TWO_FILES: [(usize, u8); 6] = [(3, 0x80), (4, 0x88), (5, 0x13), (8, 2), (1
 
 /// Each page is `01` in each byte. Where `fails` is set, page 1 fails once.
 #[derive(Drop)]
-pub(crate) struct Filled {
-    pub(crate) fails: bool,
+struct Filled {
+    fails: bool,
 }
 
 impl PageSource for Filled {
@@ -47,18 +47,18 @@ impl PageSource for Filled {
 }
 
 /// Fails where no commit may take these pages.
-pub(crate) fn check(store: &Store<SimDisk>, pages: &[FilePage]) -> Result<(), Fail>
+fn check(store: &Store<SimDisk>, pages: &[FilePage]) -> Result<(), Fail>
     requires { IsReadyStore ⟦<SimDisk as SectorDisk>⟧ store.now }
-    ensures { OnOk result (ArePages (files_of store.now) (least_of store.now) (free_of store.now) pages.now) }
+    ensures { OnOk result (ArePages (files_of store.now) (free_of store.now) pages.now) }
 {
-    match check_pages(store, pages) {
+    match check_pages(store, store.free_pages(), pages) {
         Ok(()) => Ok(()),
         Err(fault) => Err(Fail::new(format_args!("the pages: {fault}"))),
     }
 }
 
 /// Commits these pages: whether it succeeds, or the source fails.
-pub(crate) fn commits(
+fn commits(
     store: &mut Store<SimDisk>,
     pages: &[FilePage],
     source: &mut Filled,
@@ -240,7 +240,7 @@ fn refuses_layouts_and_journals(rt: HostRuntime) -> Result<(), Fail> {
     let (mut torn, mut closed) = (mark, gate);
     torn[511] = 0;
     closed[100] = 0;
-    let old = repeated(b"FAMSYNC1");
+    let (old, other) = (repeated(b"FAMSYNC1"), repeated(b"FAMSYNC3"));
     let file = sector_with(&[(3, 0x80), (5, 0x10)]);
     let many = sector_with(&[(1, 4)]);
     let layout = Some(OpenFault::BadLayout);
@@ -250,6 +250,7 @@ fn refuses_layouts_and_journals(rt: HostRuntime) -> Result<(), Fail> {
         (8194, [mark, none, none, none], (layout, 0)),
         (8195, [torn, none, none, none], (layout, 0)),
         (8203, [old, file, gate, many], (layout, 0)),
+        (8203, [other, file, gate, many], (layout, 0)),
         // An entry of no file, a file of one byte in home 1 of 1, and two of none and of one byte in home 0.
         (
             8195,

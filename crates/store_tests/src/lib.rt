@@ -14,6 +14,4 @@ mod pools;
 #[cfg(test)]
 mod requests;
 #[cfg(test)]
-mod turns;
-#[cfg(test)]
 mod upgrades;

@@ -7,7 +7,7 @@ use std::test::Fail;
 use stores::{NewStore, format};
 use vm_types::FilePage;
 
-/// The pages of the file. Commits to layouts 2 and 3 take 1,023.
+/// The pages of the file. A commit to layout 2 takes 1,023 at most.
 const PAGES: u32 = 1_100;
 
 #[test]

@@ -5,7 +5,6 @@ use disk_model::SimDisk;
 use file_store::{FileSource, format};
 use std::alloc::Global;
 use std::test::Fail;
-use sync_journal::Journals;
 
 /// How requests over a writable file and a read-only one end, of a page of zeros each, and the replies.
 fn served(alloc: Global, requests: &[u8]) -> Result<(ServeEnd, Vec<u8>), Fail> {
@@ -15,7 +14,7 @@ fn served(alloc: Global, requests: &[u8]) -> Result<(ServeEnd, Vec<u8>), Fail> {
         length: 4096,
         bytes: None,
     };
-    format(&mut disk, Journals::Single, &mut [file(false), file(true)])?;
+    format(&mut disk, &mut [file(false), file(true)])?;
     let mut store = opened(alloc, disk)?;
     let mut input = requests;
     let mut output = Vec::new(alloc);

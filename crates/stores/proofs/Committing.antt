@@ -1,55 +1,46 @@
 -- What a commit of either kind of store does, in the words of both.
-use Rattle.stores.proofs.Names.{ℕ, ◌≤◌, ◌*◌, false, List, Option, Result, ◌≡◌, ◌∙◌, ⊎_elim, inl, inr, refl, sym, ap, subst, arith, Ghosts, Image, LeavesNow, weaker}
-use Rattle.stores.proofs.{Heads.{same_mark}, Says.{from_kind, to_kind, from_pool, to_pool, left_of_kind, left_of_pool}}
-use Rattle.std.{proofs.lemmas.Result.{on_ok_weaker}, specs.Prelude.{not}}
+use Rattle.stores.proofs.Names.{ℕ, ◌≤◌, ◌*◌, false, List, Option, Result, ◌≡◌, ◌∙◌, ⊎_elim, inl, inr, refl, sym, ap, subst, arith, Ghosts, Image, LeavesNow, MayLeave, weaker}
+use Rattle.stores.proofs.{Front.{front_kept, most_committed}, Heads.{same_mark}, Says.{from_kind, to_kind, from_pool, to_pool, left_of_kind, left_of_pool}}
+use Rattle.std.{proofs.lemmas.Result.{on_ok_weaker}}
 use Rattle.vm_types.specs.declared.file.{FileInfo.{FileInfo}, FilePage.{FilePage}}
-use Rattle.sync_journal.{proofs.InTurn.{commits_weaker, start_low}, specs.Journal.{live_homes}}
-use Rattle.sync_journal.specs.Kinds.{by_kind}
-use Rattle.sync_journal.specs.declared.{faults.CommitFault.{CommitFault}, source.PageSource.{Ghosts as SourceGhosts}, store_journal.StoreJournal.{StoreJournal}}
-use Rattle.sync_journal.specs.declared.store_journal.StoreJournal.TheVariants.{One, InTurn}
+use Rattle.sync_journal.specs.declared.{faults.CommitFault.{CommitFault}, source.PageSource.{Ghosts as SourceGhosts}}
 use Rattle.pool_journal.specs.{Journal.{free_count}, Maps.{entries_of}, Pools.{IsSingle}}
 use Rattle.pool_journal.specs.declared.{map.SlotMap.{SlotMap}, sizes.PoolSizes.{PoolSizes}}
 use Rattle.file_store.specs.Commit as KindCommit
-use Rattle.file_store.specs.Standing as ByKind
+use Rattle.file_store.specs.Standing as InFiles
 use Rattle.file_store.specs.declared.store.FileStore.{FileStore}
 use Rattle.pool_store.proofs.Ready.{in_blocks_weaker}
 use Rattle.pool_store.specs.Commit as PoolCommit
 use Rattle.pool_store.specs.Files as InPool
 use Rattle.pool_store.specs.{Pools.{files_in_pool}, Store.{IsReadyPool}}
 use Rattle.pool_store.specs.declared.store.PoolStore.{PoolStore}
-use Rattle.stores.specs.{Commit.{CommitsPages}, Images.{is_pool, StandsFor, StandsForEither}, Store.{IsReadyStore}}
-use Rattle.stores.specs.declared.store.Store.TheVariants.{Journals, Pool}
-
--- the mark is none of what a commit of layout 2 or 3 writes
-mark_stays : (journal : StoreJournal) → by_kind.IsCommitted journal 0 → ⊥
-mark_stays (One journal) = ⊎_elim (⊎_elim (λ gate. omega (arith, gate)) (λ inside. omega (arith, inside.0))) (λ at. omega (arith, at.2.0))
-mark_stays (InTurn journal) = ⊎_elim (λ gate. omega (arith, gate))
-    (⊎_elim (λ inside. omega (arith, inside.0, start_low (not journal.second))) (λ at. omega (arith, at.2.0)))
+use Rattle.stores.specs.{Commit.{CommitsPages}, Images.{is_pool, StandsFor, StandsForEither}, Store.{kept_of, IsReadyStore}}
+use Rattle.stores.specs.declared.store.Store.TheVariants.{Journal, Pool}
 
 -- as many slots are free where sizes and map are the same
 same_free : (a b : PoolSizes) (map was : SlotMap) → a ≡ b → map ≡ was → free_count a.blocks (entries_of map) ≡ free_count b.blocks (entries_of was)
 same_free a b map was sizes is = ap (λ (x : PoolSizes). free_count x.blocks (entries_of map)) sizes ∙ ap (λ (x : SlotMap). free_count b.blocks (entries_of x)) is
 
-module _ {D S : Type 0} (g : Ghosts D) (s : SourceGhosts S) (list : List FilePage) (given given' : S) (result : Result (Unit {0}) CommitFault) where
-  -- a store of layout 2 or 3
-  module _ (old new : FileStore D) (ready : IsReadyStore g (Journals old)) (e : KindCommit.CommitsPages g s old new list given given' result) where
+module _ {D S : Type 0} (g : Ghosts D) (s : SourceGhosts S) (list : List FilePage) (given given' : S) (result : Result (Unit {0}) CommitFault)
+    (only_now : (d : D) (image : Image) → g.keeps_model d → g.left_since d (g.moment d) image → MayLeave (g.content d) (g.unsynced d) image) where
+  -- a store of layout 2
+  module _ (old new : FileStore D) (ready : IsReadyStore g (Journal old)) (e : KindCommit.CommitsPages g s old new list given given' result) where
     abbrev n : ℕ
     n = g.sector_count old.disk
 
     -- what it stood for it stood for by the words of its layout
     kind_left : g.keeps_model new.disk → (files : ℕ → Option FileInfo) (before : ℕ → ℕ → List ℕ)
-        → LeavesNow g old.disk (StandsFor n files before) → LeavesNow g old.disk (ByKind.StandsFor n files before)
-    kind_left keeps files before left image may =
-        to_kind n files before image (left_of_kind g old ready.0 (e.kept keeps) (ready.1 (e.kept keeps)) image may) (left image may)
+        → LeavesNow g old.disk (StandsFor n files before) → LeavesNow g old.disk (InFiles.StandsFor n files before)
+    kind_left keeps files before left image may = to_kind n files before image (left_of_kind g old ready (e.kept keeps) image may) (left image may)
 
     -- the mark is none of a pool still
     unmarked : g.keeps_model new.disk → is_pool (g.content new.disk) ≡ false
-    unmarked keeps = ⊎_elim (λ written. absurd (mark_stays old.journal written))
+    unmarked keeps = ⊎_elim (λ written. absurd (front_kept (kept_of (Journal old)) 0 (omega arith) written))
         (λ same. same_mark (g.content old.disk) (g.content new.disk) same ∙ ready.1 (e.kept keeps)) ((e.touches keeps).content 0)
 
     -- so this is what its commit does
-    pub of_journals : CommitsPages g s (Journals old) (Journals new) list given given' result
-    of_journals = record {
+    pub of_journal : CommitsPages g s (Journal old) (Journal new) list given given' result
+    of_journal = record {
       ok = λ keeps gives files before after left changes. on_ok_weaker result (λ now image may. from_kind n files after image (now image may))
           (e.ok keeps gives files before after (kind_left keeps files before left) changes);
       synced = e.synced;
@@ -59,14 +50,12 @@ module _ {D S : Type 0} (g : Ghosts D) (s : SourceGhosts S) (list : List FilePag
           weaker g old.disk new.disk (KindCommit.StandsForEither n files before after) (StandsForEither n files before after)
           (λ image. ⊎_elim (λ was. inl (from_kind n files before image was)) (λ is. inr (from_kind n files after image is)))
           (e.any_moment keeps gives files before after (kind_left keeps files before left) changes);
-      blocks = λ keeps gives files before after left changes turns is. commits_weaker g
-          (KindCommit.StandsForEither n files before after) (StandsForEither n files before after)
-          (λ image. ⊎_elim (λ was. inl (from_kind n files before image was)) (λ is'. inr (from_kind n files after image is')))
-          turns.second (live_homes turns.live) old.disk new.disk (e.blocks keeps gives files before after (kind_left keeps files before left) changes turns is);
+      blocks = λ keeps gives files before after left changes. tt;
+      most_moment = λ keeps. most_committed g (Journal old) new.disk only_now ready (e.kept keeps) (e.touches keeps);
       homes = e.homes;
       homes_moment = e.homes_moment;
       source_homes = e.source_homes;
-      source = λ keeps told files before left. weaker g old.disk new.disk (ByKind.StandsFor n files before) (StandsFor n files before)
+      source = λ keeps told files before left. weaker g old.disk new.disk (InFiles.StandsFor n files before) (StandsFor n files before)
           (from_kind n files before) (e.source keeps told files before (kind_left keeps files before left));
       source_now = λ keeps told files before left image may.
           from_kind n files before image (e.source_now keeps told files before (kind_left keeps files before left) image may);
@@ -125,6 +114,7 @@ module _ {D S : Type 0} (g : Ghosts D) (s : SourceGhosts S) (list : List FilePag
           (InPool.StandsForEither (files_in_pool m d homes) sectors files before after) (StandsForEither sectors files before after) old.disk new.disk
           (λ image. ⊎_elim (λ was. inl (from files before image was)) (λ is. inr (from files after image is)))
           (e.blocks keeps gives files before after (pool_left keeps files before left) changes);
+      most_moment = λ keeps. most_committed g (Pool old) new.disk only_now ready (e.kept keeps) (e.touches keeps);
       homes = e.homes;
       homes_moment = e.homes_moment;
       source_homes = e.source_homes;

@@ -1,23 +1,18 @@
 -- An opening after a look at the mark, or a store taken up after it, a device without a sector, and stops in a row.
-use Rattle.stores.proofs.Names.{ℕ, zero, suc, Bool, true, false, Result, Ok, Err, ◌≡◌, ◌<◌, ◌⊎◌, ◌∙◌, inl, refl, sym, subst, arith, stays, then, wider}
+use Rattle.stores.proofs.Names.{ℕ, zero, suc, Bool, true, false, Result, Ok, Err, ◌≡◌, ◌⊎◌, ◌∙◌, inl, refl, sym, ap, subst, arith, stays, then, wider}
 use Rattle.stores.proofs.Names.{Ghosts, Image, AsksOnly, LeavesNow, LeavesOnly, MayLeave, Nothing, Touches, RunsOnDevice}
 use Rattle.std.specs.Prelude.{MatchResult}
 use Rattle.disk_model.proofs.Moments.{asks_named, asks_none, asks_then, joined}
 use Rattle.sync_journal.proofs.Sectors.{reads_unsynced, same_content, so_before, while_read}
-use Rattle.sync_journal.specs.{Kinds.{kind_of}, declared.store_journal.Journals.{Journals, TheVariants.{Single, Paired}}}
-use Rattle.file_store.specs.{Standing.{IsBadLayoutIn.{TooSmall as FewSectors}}, Versions.{homes_of, version_at}}
+use Rattle.file_store.specs.Standing.IsBadLayoutIn.{TooSmall as FewSectors}
 use Rattle.pool_store.specs.{Pools.{IsBadPool.{TooSmall}}, Resume.{HasPoolHead}}
-use Rattle.stores.specs.Images.{free_pages, is_pool, most_pages, says_by, IsBadLayout, IsBadJournal, IsClosed, IsOutside, IsAskedToOpen, IsWrittenToOpen, StandsAs}
-use Rattle.stores.specs.{Marks.{LooksAtMark}, Opened.{IsCarriedOut, LeftInARow, OpensFrom, RefusesToOpen, RunsOpening}, Resumed.{IsAsNamed, ResumesFrom}, Store.{disk_of, kept_of, free_of, always_free_in}}
+use Rattle.stores.specs.Images.{free_pages, is_pool, most_pages, says_by, IsBadLayout, IsBadJournal, IsClosed, IsOutside, IsAskedToOpen, IsWrittenToOpen, SaysMostOf, StandsAs}
+use Rattle.stores.specs.{Marks.{LooksAtMark}, Opened.{IsCarriedOut, LeftInARow, OpensFrom, RefusesToOpen, RunsOpening}, Resumed.{IsAsNamed, ResumesFrom, RefusesToResume, RunsResuming}, Store.{disk_of, kept_of, free_of, always_free_in}}
 use Rattle.stores.specs.declared.{faults.OpenFault.{OpenFault, TheVariants.{Device, BadLayout}}, store.Store.{Store}}
 
 -- Every layout has sectors before its homes, so that a device without one has no store, whatever its image.
-homes_behind : (kind : Journals) → 0 < homes_of (version_at kind)
-homes_behind Single = omega arith
-homes_behind Paired = omega arith
-
 none_fits : (in_pool : Bool) (sectors : ℕ) (image : Image) → sectors ≡ 0 → (says_by in_pool sectors image).HasBadLayout
-none_fits false sectors image none = FewSectors (let behind = homes_behind (kind_of image) in omega (arith, none, behind))
+none_fits false sectors image none = FewSectors (omega (arith, none))
 none_fits true sectors image none = TooSmall (omega (arith, none))
 
 -- Every opening asks for the mark.
@@ -38,6 +33,8 @@ module _ {D : Type 0} (g : Ghosts D) (old : D) (only_now : (d : D) (image : Imag
     outside = λ keeps k out. same_content g old new (run.touches keeps) k;
     any_moment = λ keeps synced. while_read g old new (run.touches keeps) (StandsAs (g.sector_count old) (g.content old)) (λ files pages stands. stands)
         (λ image left. only_now old image (run.kept keeps) left) synced;
+    most_moment = λ keeps synced. while_read g old new (run.touches keeps) (SaysMostOf (g.sector_count old) (g.content old)) refl
+        (λ image left. only_now old image (run.kept keeps) left) synced;
   }
 
   -- A device without a sector is refused, and not looked at.
@@ -54,6 +51,11 @@ module _ {D : Type 0} (g : Ghosts D) (old : D) (only_now : (d : D) (image : Imag
     layout_first = λ keeps is bad. cc;
     memory = λ keeps is. cc;
   }
+
+  pub refuses_to_resume_none : g.sector_count old ≡ 0 → RefusesToResume g old BadLayout old
+  refuses_to_resume_none none =
+      let r = refuses_none none in
+      record { refused = r; resuming = record { run = r.err_run; pool_unwritten = λ keeps marked. stays g Nothing old } }
 
   -- So does a look at the mark, of which every opening asks.
   looks_alone : {E : Type 0} {r : Result Bool E} (mid : D) → LooksAtMark g old mid r → RunsOpening g old mid
@@ -73,6 +75,11 @@ module _ {D : Type 0} (g : Ghosts D) (old : D) (only_now : (d : D) (image : Imag
     layout_first = λ keeps is bad. cc;
     memory = λ keeps is. cc;
   }
+
+  pub refuses_to_resume_look : {E : Type 0} (e : E) (mid : D) → LooksAtMark g old mid (Err e) → RefusesToResume g old Device mid
+  refuses_to_resume_look e mid look =
+      let r = refuses_look e mid look in
+      record { refused = r; resuming = record { run = r.err_run; pool_unwritten = λ keeps marked. look.run.touches keeps } }
 
   -- and what comes of an opening after it came of the device before it.
   module _ {E : Type 0} (in_pool : Bool) (mid : D) (look : LooksAtMark {E = E} g old mid (Ok in_pool)) where
@@ -97,6 +104,9 @@ module _ {D : Type 0} (g : Ghosts D) (old : D) (only_now : (d : D) (image : Imag
           any_moment = λ keeps synced. joined g old mid new (StandsAs (g.sector_count old) (g.content old)) (first.any_moment (run.kept keeps) synced)
               (before (λ n image. LeavesOnly g mid new (StandsAs n image)) (run.kept keeps)
               (run.any_moment keeps (λ k u. synced k (reads_unsynced g old mid (look.run.touches (run.kept keeps)) k u))));
+          most_moment = λ keeps synced. joined g old mid new (SaysMostOf (g.sector_count old) (g.content old)) (first.most_moment (run.kept keeps) synced)
+              (before (λ n image. LeavesOnly g mid new (SaysMostOf n image)) (run.kept keeps)
+              (run.most_moment keeps (λ k u. synced k (reads_unsynced g old mid (look.run.touches (run.kept keeps)) k u))));
         }
 
     opens_since : (store : Store D) → OpensFrom g mid store → OpensFrom g old store
@@ -134,29 +144,34 @@ module _ {D : Type 0} (g : Ghosts D) (old : D) (only_now : (d : D) (image : Imag
     since_look (Err e) refused = refuses_since e.0 e.1 refused
 
     -- So it is of a store that is taken up.
+    resuming_since : (new : D) → RunsResuming g mid new → RunsResuming g old new
+    resuming_since new r = record {
+      run = run_since new r.run;
+      pool_unwritten = λ keeps marked. then g Nothing old mid new (look.run.touches (r.run.kept keeps))
+          (before (λ n image. is_pool image ≡ true → Touches g Nothing mid new) (r.run.kept keeps) (r.pool_unwritten keeps) marked);
+    }
+
     resumes_since : (store : Store D) → ResumesFrom g mid store → ResumesFrom g old store
     resumes_since store r = record {
-      run = run_since (disk_of store) r.run;
-      pool_unwritten = λ keeps marked. then g Nothing old mid (disk_of store) (look.run.touches (r.run.kept keeps))
-          (before (λ n image. is_pool image ≡ true → Touches g Nothing mid (disk_of store)) (r.run.kept keeps) (r.pool_unwritten keeps) marked);
+      resuming = resuming_since (disk_of store) r.resuming;
       ready = r.ready;
       bounded = r.bounded;
-      good_layout = λ keeps. before (λ n image. IsBadLayout n image → ⊥) (r.run.kept keeps) (r.good_layout keeps);
-      good_journal = λ keeps. before (λ n image. IsBadJournal n image → ⊥) (r.run.kept keeps) (r.good_journal keeps);
-      now = λ keeps. before (λ n image. LeavesNow g (disk_of store) (StandsAs n image)) (r.run.kept keeps) (r.now keeps);
+      good_layout = λ keeps. before (λ n image. IsBadLayout n image → ⊥) (r.resuming.run.kept keeps) (r.good_layout keeps);
+      good_journal = λ keeps. before (λ n image. IsBadJournal n image → ⊥) (r.resuming.run.kept keeps) (r.good_journal keeps);
+      now = λ keeps. before (λ n image. LeavesNow g (disk_of store) (StandsAs n image)) (r.resuming.run.kept keeps) (r.now keeps);
       synced = r.synced;
-      named = λ keeps. before (λ n image. IsAsNamed (kept_of store) image) (r.run.kept keeps) (r.named keeps);
-      free = λ keeps. before (λ n image. free_of store ≡ free_pages n image) (r.run.kept keeps) (r.free keeps);
-      most = λ keeps. before (λ n image. always_free_in (kept_of store) ≡ most_pages n image) (r.run.kept keeps) (r.most keeps);
+      named = λ keeps. before (λ n image. IsAsNamed (kept_of store) image) (r.resuming.run.kept keeps) (r.named keeps);
+      free = λ keeps. before (λ n image. free_of store ≡ free_pages n image) (r.resuming.run.kept keeps) (r.free keeps);
+      most = λ keeps. before (λ n image. always_free_in (kept_of store) ≡ most_pages n image) (r.resuming.run.kept keeps) (r.most keeps);
       calm = r.calm ∙ look.cause.calm;
     }
 
-    pub resumed_since_look : (r : Result (Store D) (OpenFault × D)) → MatchResult r (λ store. ResumesFrom g mid store) (λ e. RefusesToOpen g mid e.0 e.1)
-        → MatchResult r (λ store. ResumesFrom g old store) (λ e. RefusesToOpen g old e.0 e.1)
+    pub resumed_since_look : (r : Result (Store D) (OpenFault × D)) → MatchResult r (λ store. ResumesFrom g mid store) (λ e. RefusesToResume g mid e.0 e.1)
+        → MatchResult r (λ store. ResumesFrom g old store) (λ e. RefusesToResume g old e.0 e.1)
     resumed_since_look (Ok store) resumed = resumes_since store resumed
-    resumed_since_look (Err e) refused = refuses_since e.0 e.1 refused
+    resumed_since_look (Err e) r = record { refused = refuses_since e.0 e.1 r.refused; resuming = resuming_since e.1 r.resuming }
 
--- What any number of stops in a row leave, each within an opening of what the one before left, stands for what stood at first.
+-- What any number of stops in a row leave, each within an opening of what the one before left, stands for what stood at first,
 pub still_stands : {D : Type 0} (g : Ghosts D) (sectors n : ℕ) (first last : Image) → LeftInARow g sectors n first last → StandsAs sectors first last
 still_stands g sectors zero first last same = subst (StandsAs sectors first) (sym same) (λ files pages was. was)
 still_stands g sectors (suc n) first last stops =
@@ -165,3 +180,13 @@ still_stands g sectors (suc n) first last stops =
     let here = subst (λ k. StandsAs k stops.0 last) opens.size
     (subst (λ (held : Image). StandsAs (g.sector_count old) held last) opens.held (opens.stands.each last stops.5)) in
     λ files pages was. here files pages (still_stands g sectors n first stops.0 stops.3 files pages was)
+
+-- and says of commits what was said at first.
+pub still_most : {D : Type 0} (g : Ghosts D) (sectors n : ℕ) (first last : Image) → LeftInARow g sectors n first last → SaysMostOf sectors first last
+still_most g sectors zero first last same = ap (most_pages sectors) same
+still_most g sectors (suc n) first last stops =
+    let old = stops.1 in
+    let opens = stops.4 in
+    subst (λ k. SaysMostOf k stops.0 last) opens.size
+    (subst (λ (held : Image). SaysMostOf (g.sector_count old) held last) opens.held (opens.most.each last stops.5))
+    ∙ still_most g sectors n first stops.0 stops.3

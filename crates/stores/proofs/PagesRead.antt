@@ -1,12 +1,12 @@
 -- A page that is read from a store of either kind, in the words of both.
 use Rattle.stores.proofs.Names.{ℕ, ◌≡◌, false, List, Result, OnOk, ap, sym, subst, ◌∙◌, ⊎_elim, Image, Ghosts, Nothing, Touches}
 use Rattle.vm_types.specs.declared.file.FilePage.{FilePage}
-use Rattle.file_store.specs.Store as KindStore
+use Rattle.file_store.specs.Store as InFiles
 use Rattle.file_store.specs.declared.store.FileStore.{FileStore}
 use Rattle.pool_journal.specs.Pools.{pool_home_count}
 use Rattle.pool_store.specs.{Files.{page_in}, Pools.{files_in_pool}, Resume.{pool_on}, Store.{IsReadyPool, ReadsPoolPage}, declared.store.PoolStore.{PoolStore}}
-use Rattle.stores.specs.{Images.{is_pool, directory_pages, says_by, standing_page}, Store.{OfJournals, OfPool, IsReadyStore, ReadsFilePage}}
-use Rattle.stores.specs.declared.store.Store.TheVariants.{Journals, Pool}
+use Rattle.stores.specs.{Images.{is_pool, directory_pages, says_by, standing_page}, Store.{OfJournal, OfPool, IsReadyStore, ReadsFilePage}}
+use Rattle.stores.specs.declared.store.Store.TheVariants.{Journal, Pool}
 use Rattle.stores.proofs.{Heads.{same_mark}, Says.{IsHeaded, head_of}}
 
 -- a device that is only read has the mark that it had
@@ -23,13 +23,13 @@ page_headed m d n sectors homes image head f k =
     ∙ ap (λ homes. page_in (files_in_pool m d homes) image f k) (sym homes)
 
 module _ {D T E : Type 0} (g : Ghosts D) (p : FilePage) (to : List ℕ) (result : Result T E) where
-  -- a store of layout 2 or 3 reads it so
-  pub kind_page : (old new : FileStore D) → IsReadyStore g (Journals old) → KindStore.ReadsFilePage g old new p to result
-      → ReadsFilePage g (Journals old) (Journals new) p to result
+  -- a store of layout 2 reads it so
+  pub kind_page : (old new : FileStore D) → IsReadyStore g (Journal old) → InFiles.ReadsFilePage g old new p to result
+      → ReadsFilePage g (Journal old) (Journal new) p to result
   kind_page old new ready reads = record {
     page = λ keeps. subst (λ pool. OnOk result (to ≡ (says_by pool (g.sector_count old.disk) (g.content old.disk)).page p.file p.page)) (sym (ready.1 (reads.kept keeps))) (reads.page keeps);
     ready = (reads.ready, λ keeps. unmarked_still g old.disk new.disk (reads.touches keeps) (ready.1 (reads.kept keeps)));
-    same = ap (λ directory. OfJournals directory new.journal) reads.files ∙ ap (OfJournals old.directory) reads.journal;
+    same = ap (λ directory. OfJournal directory new.journal) reads.files ∙ ap (OfJournal old.directory) reads.journal;
     size = reads.size;
     kept = reads.kept;
     touches = reads.touches;

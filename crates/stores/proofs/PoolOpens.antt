@@ -1,7 +1,7 @@
 -- A store of a pool that is opened, or taken up as it stands, in the words of stores of any layout.
-use Rattle.stores.proofs.{Heads.{blocks_are, pages_are, same_blocks, same_mark, same_pages}, Says.{IsHeaded, as_pool, head_of}}
+use Rattle.stores.proofs.{Front.{most_stays}, Heads.{blocks_are, pages_are, same_blocks, same_mark, same_pages}, Says.{IsHeaded, as_pool, head_of}}
 use Rattle.stores.proofs.Names.{ℕ, ◌≡◌, ◌⊎◌, ◌∙◌, ◌<◌, ◌≤◌, ◌*◌, true, false, List, Option, Some, None, refl, sym, ap, subst, ⊎_elim, inl, inr, arith, bytes_eq-Decides}
-use Rattle.stores.proofs.Names.{Bool, Image, AsksOnly, LeavesNow, Touches, Nothing, RunsOnDevice, Ghosts, weaker, wider, true≢false}
+use Rattle.stores.proofs.Names.{Bool, Image, MayLeave, AsksOnly, LeavesNow, Touches, Nothing, RunsOnDevice, Ghosts, weaker, wider, true≢false}
 use Rattle.std.{proofs.lemmas.{Bool.{cases_Bool, cases_lt}, Option.{none-some, same_Some}}, specs.{Option.{option_map}, Str.{bytes_eq}}}
 use Rattle.vm_types.specs.{Limits.{file_limit, file_page_limit}, declared.file.FileInfo.{FileInfo}}
 use Rattle.disk_model.proofs.Moments.{asks_wider}
@@ -12,9 +12,9 @@ use Rattle.pool_journal.{proofs.{Counted.{free_and_live}, Loose.{map_high, map_l
 use Rattle.pool_store.specs.{Files.{info_in, info_of, page_in, StandsAs as PoolStandsAs}, Opened.{OpensPool, RefusesPool, IsWrittenToOpen}}
 use Rattle.pool_store.proofs.OneKind.{bad_by_all}
 use Rattle.pool_store.specs.{Pools.{files_in_pool, HaveBounds, IsBadPool, IsBadPool.{OtherKind}}, Store.{layout_of}}
-use Rattle.pool_store.specs.Resume.{IsAskedToOpen, IsAskedOf, IsAskedIn, IsNoPool, FindsStore, ResumesStore, RefusesToResume}
+use Rattle.pool_store.specs.Resume.{IsAskedToOpen, IsAskedOf, IsAskedIn, IsNoPool, FindsStore, ResumesStore, RefusesToResume as RefusesPoolResume}
 use Rattle.pool_store.specs.declared.{faults.OpenFault.{OpenFault as PoolFault, TheVariants.{Device as PoolDevice, BadLayout as PoolLayout, Memory as PoolMemory}}, store.PoolStore.{PoolStore}}
-use Rattle.stores.specs.{Faults.{of_pool}, Images.{ImageSays, directory_pages, free_pages, is_pool, map_blocks, most_pages, says, says_by, IsBadJournal, IsBadLayout, StandsAs}, Store.{files_of}, Opened.{OpensFrom, RefusesToOpen, RunsOpening}, Resumed.{ResumesFrom}}
+use Rattle.stores.specs.{Faults.{of_pool}, Images.{ImageSays, directory_pages, free_pages, is_pool, map_blocks, most_pages, says, says_by, IsBadJournal, IsBadLayout, StandsAs}, Store.{files_of}, Opened.{OpensFrom, RefusesToOpen, RunsOpening}, Resumed.{ResumesFrom, RefusesToResume}}
 use Rattle.stores.specs.declared.{faults.OpenFault.TheVariants.{Device, BadLayout, BadJournal, Memory}, store.Store.TheVariants.{Pool}}
 
 -- what an image says by the layout of stores with maps of m blocks and a directory of d pages, on a device of so many sectors and n homes
@@ -125,7 +125,8 @@ record IsFound {D : Type 0} (g : Ghosts D) (old : D) (store : PoolStore D) : Typ
   pub asks : g.keeps_model store.disk → AsksOnly g (IsAskedOf store (g.content old)) old store.disk
   pub closed_unwritten : g.keeps_model store.disk → (layout_of store).pages.IsClosed (g.content old) → Touches g Nothing old store.disk
 
-module _ {D : Type 0} (g : Ghosts D) (old : D) where
+module _ {D : Type 0} (g : Ghosts D) (old : D)
+    (only_now : (d : D) (image : Image) → g.keeps_model d → g.left_since d (g.moment d) image → MayLeave (g.content d) (g.unsynced d) image) where
   abbrev sectors : ℕ
   sectors = g.sector_count old
 
@@ -177,6 +178,8 @@ module _ {D : Type 0} (g : Ghosts D) (old : D) where
       closed_unwritten = λ keeps closed. o.closed_unwritten keeps (of_head m d n sectors homes image (head keeps) (λ (words : ImageSays). words.IsClosed) closed);
       any_moment = λ keeps still. weaker g old disk (PoolStandsAs (layout_of store) sectors image) (StandsAs sectors image)
           (λ left stays. as_pool m d n sectors homes image left (head keeps) stays) (o.finds.stays.through.any_moment keeps still);
+      most_moment = λ keeps still. most_stays g ((pool m n).IsRecovered image sectors) old disk (λ left since. only_now old left (o.run.kept keeps) since)
+          (λ k low. still k) (front_unwritten m n sectors image) (o.run.touches keeps);
     }
 
     -- its image was that of a store,
@@ -230,8 +233,7 @@ module _ {D : Type 0} (g : Ghosts D) (old : D) where
         closed_unwritten = λ keeps closed. r.run.touches keeps;
       } in
       record {
-        run = runs store found;
-        pool_unwritten = λ keeps marked. r.run.touches keeps;
+        resuming = record { run = runs store found; pool_unwritten = λ keeps marked. r.run.touches keeps };
         ready = r.finds.ready;
         bounded = bounds store found;
         good_layout = good store found;
@@ -281,6 +283,8 @@ module _ {D : Type 0} (g : Ghosts D) (old : D) where
           (kind_cases blocks pages (image 1));
       any_moment = λ keeps still. weaker g old new (PoolStandsAs (files_in_pool blocks pages count) sectors image) (StandsAs sectors image)
           (λ left stays. as_pool blocks pages count sectors refl image left (headed keeps) stays) ((r.err_stays blocks pages).through.any_moment keeps still);
+      most_moment = λ keeps still. most_stays g (IsWrittenToOpen sectors image) old new (λ left since. only_now old left (r.err_run.kept keeps) since) (λ k low. still k)
+          (λ k low written. front_unwritten written.0 (pool_home_count written.0 sectors) sectors image k low written.3) (r.err_run.touches keeps);
     }
 
     pub pool_refuses : RefusesToOpen g old (of_pool fault) new
@@ -299,13 +303,15 @@ module _ {D : Type 0} (g : Ghosts D) (old : D) where
     }
 
   -- as it is where nothing at all is written.
-  pub pool_refuses_resume : (g.keeps_model old → is_pool image ≡ true) → (fault : PoolFault) (new : D) → RefusesToResume g old fault new → RefusesToOpen g old (of_pool fault) new
-  pool_refuses_resume marked fault new r = pool_refuses marked fault new (record {
-    blames = r.blames;
-    unwritten = λ keeps other. r.err_run.touches keeps;
-    bad_unwritten = λ keeps bad. r.err_run.touches keeps;
-    err_closed_unwritten = λ keeps m d is closed. r.err_run.touches keeps;
-    err_run = of_more g Nothing (IsWrittenToOpen sectors image) old new (λ k none. absurd none) r.err_run;
-    err_stays = r.err_stays;
-    err_asks = r.err_asks;
-  })
+  pub pool_refuses_resume : (g.keeps_model old → is_pool image ≡ true) → (fault : PoolFault) (new : D) → RefusesPoolResume g old fault new → RefusesToResume g old (of_pool fault) new
+  pool_refuses_resume marked fault new r =
+      let refused = pool_refuses marked fault new (record {
+        blames = r.blames;
+        unwritten = λ keeps other. r.err_run.touches keeps;
+        bad_unwritten = λ keeps bad. r.err_run.touches keeps;
+        err_closed_unwritten = λ keeps m d is closed. r.err_run.touches keeps;
+        err_run = of_more g Nothing (IsWrittenToOpen sectors image) old new (λ k none. absurd none) r.err_run;
+        err_stays = r.err_stays;
+        err_asks = r.err_asks;
+      }) in
+      record { refused = refused; resuming = record { run = refused.err_run; pool_unwritten = λ keeps marked. r.err_run.touches keeps } }

@@ -2,21 +2,20 @@
 use Rattle.stores.proofs.{Heads.{same_blocks, same_mark, same_pages}, KindOpens.{in_kind}, PoolOpens.{by_head, of_head}, Says.{head_of}}
 use Rattle.stores.proofs.Names.{ℕ, ◌≡◌, ◌≤◌, ◌*◌, ◌∙◌, Bool, true, false, Some, refl, sym, ap, ⊎_elim, inl, inr, arith, true≢false, Ghosts, Image}
 use Rattle.std.specs.Option.{option_map}
-use Rattle.file_store.specs.Store as ByKind
+use Rattle.file_store.specs.Store as InFiles
 use Rattle.pool_journal.{proofs.Loose.{few, loose_high, loose_low, no_home, stands_from}, specs.{Maps.{entries_of}, Pools.{pool, pool_home_count}}}
 use Rattle.pool_store.{proofs.Entries.{entry_stood}, specs.Files.{info_of}}
 use Rattle.pool_store.specs.Store as InPool
-use Rattle.sync_journal.specs.{Kinds.{kind_of, layout_of}, declared.store_journal.Journals.{Journals as Kinds, TheVariants.{Single, Paired}}}
 use Rattle.stores.specs.Images.{ImageSays, directory_pages, file_info, is_pool, map_blocks, says_by, standing_page, IsBadLayout, IsBadJournal, IsOutside, StandsFor, StandsAs}
 use Rattle.stores.specs.Store.{disk_of, kept_of, files_of, free_of, always_free_in, IsCommittedIn, IsReadyStore, IsUsedIn}
-use Rattle.stores.specs.declared.store.{Store.{Store}, Store.TheVariants.{Journals, Pool}}
+use Rattle.stores.specs.declared.store.{Store.{Store}, Store.TheVariants.{Journal, Pool}}
 
 module _ {D : Type 0} (g : Ghosts D) where
   -- the files that a ready store has are those that its image says
   pub files_said : (store : Store D) → IsReadyStore g store → g.keeps_model (disk_of store)
       → (f : ℕ) → files_of store f ≡ file_info (g.sector_count (disk_of store)) (g.content (disk_of store)) f
-  files_said (Journals store) ready keeps f =
-      in_kind (λ said. ByKind.files_of store f ≡ said.info f) (g.sector_count store.disk) (g.content store.disk) (ready.1 keeps)
+  files_said (Journal store) ready keeps f =
+      in_kind (λ said. InFiles.files_of store f ≡ said.info f) (g.sector_count store.disk) (g.content store.disk) (ready.1 keeps)
       (ap (option_map (λ e. e.info)) ((ready.0.at_rest keeps).directory f))
   files_said (Pool store) ready keeps f =
       let m = store.journal.sizes.blocks in
@@ -29,19 +28,19 @@ module _ {D : Type 0} (g : Ghosts D) where
   -- without the mark of a pool it has room for as many pages as every commit may take,
   pub roomy : (store : Store D) → IsReadyStore g store → g.keeps_model (disk_of store) → is_pool (g.content (disk_of store)) ≡ false
       → (always_free_in (kept_of store) ≡ 1023) × (always_free_in (kept_of store) ≤ free_of store)
-  roomy (Journals store) ready keeps unmarked = (refl, omega arith)
+  roomy (Journal store) ready keeps unmarked = (refl, omega arith)
   roomy (Pool store) ready keeps unmarked = absurd (true≢false (sym (head_of g store ready keeps).mark ∙ unmarked))
 
   -- with it that is as many as a body has slots,
   pub always_said : (store : Store D) → IsReadyStore g store → g.keeps_model (disk_of store) → is_pool (g.content (disk_of store)) ≡ true
       → always_free_in (kept_of store) ≡ 504 * map_blocks (g.content (disk_of store))
-  always_said (Journals store) ready keeps marked = absurd (true≢false (sym marked ∙ ready.1 keeps))
+  always_said (Journal store) ready keeps marked = absurd (true≢false (sym marked ∙ ready.1 keeps))
   always_said (Pool store) ready keeps marked = ap (λ m. 504 * m) (sym (head_of g store ready keeps).blocks)
 
   -- and nothing that a commit uses lies outside of gate, maps, slots and homes,
   pub used_inside : (store : Store D) → IsReadyStore g store → g.keeps_model (disk_of store) → is_pool (g.content (disk_of store)) ≡ true
       → (k : ℕ) → IsUsedIn (kept_of store) k → IsOutside (g.sector_count (disk_of store)) (g.content (disk_of store)) k → ⊥
-  used_inside (Journals store) ready keeps marked k used outside = absurd (true≢false (sym marked ∙ ready.1 keeps))
+  used_inside (Journal store) ready keeps marked k used outside = absurd (true≢false (sym marked ∙ ready.1 keeps))
   used_inside (Pool store) ready keeps marked k used outside =
       let m = store.journal.sizes.blocks in
       let n = store.journal.sizes.homes in
@@ -61,7 +60,7 @@ module _ {D : Type 0} (g : Ghosts D) where
   -- nor what it writes.
   pub committed_inside : (store : Store D) → IsReadyStore g store → g.keeps_model (disk_of store) → is_pool (g.content (disk_of store)) ≡ true
       → (k : ℕ) → IsCommittedIn (kept_of store) k → IsOutside (g.sector_count (disk_of store)) (g.content (disk_of store)) k → ⊥
-  committed_inside (Journals store) ready keeps marked k written = absurd (true≢false (sym marked ∙ ready.1 keeps))
+  committed_inside (Journal store) ready keeps marked k written = absurd (true≢false (sym marked ∙ ready.1 keeps))
   committed_inside (Pool store) ready keeps marked k written =
       used_inside (Pool store) ready keeps marked k (⊎_elim (λ gate. inl gate) (λ loose. inr (inl loose)) written)
 
@@ -69,12 +68,8 @@ module _ {D : Type 0} (g : Ghosts D) where
 pub mark_outside : (sectors : ℕ) (image : Image) → IsOutside sectors image 0
 mark_outside sectors image = from (is_pool image)
   where
-    low : (kind : Kinds) → (layout_of kind).IsOutside image sectors 0
-    low Single = inl (omega arith)
-    low Paired = inl (omega arith)
-
     from : (in_pool : Bool) → (says_by in_pool sectors image).IsOutside 0
-    from false = low (kind_of image)
+    from false = inl (omega arith)
     from true = inl (omega arith)
 
 pub kind_outside : (sectors : ℕ) (image : Image) → is_pool image ≡ true → IsOutside sectors image 1

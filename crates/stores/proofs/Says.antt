@@ -1,11 +1,9 @@
 -- What an image says, by the words of the layout that its mark tells.
-use Rattle.stores.proofs.Names.{ℕ, ◌≡◌, ◌∙◌, Bool, true, false, List, [], ◌∷◌, Option, refl, sym, ap, subst, ⊎_elim, arith, get_or, cases_eq, true≢false, Image, LeavesNow, MayLeave, Ghosts}
+use Rattle.stores.proofs.Names.{ℕ, ◌≡◌, ◌∙◌, ◌<◌, Bool, true, false, List, [], ◌∷◌, Option, refl, sym, ap, subst, ⊎_elim, arith, get_or, cases_eq, true≢false, Image, LeavesNow, MayLeave, Ghosts}
 use Rattle.vm_types.specs.declared.file.FileInfo.{FileInfo}
 use Rattle.file_store.specs.Layout.{mark, pool_mark}
-use Rattle.file_store.specs.Standing as ByKind
+use Rattle.file_store.specs.Standing as InFiles
 use Rattle.file_store.specs.Standing.IsBadLayoutIn.{Unmarked}
-use Rattle.file_store.specs.Store as KindStore
-use Rattle.file_store.specs.Versions.{mark_of, version_at}
 use Rattle.file_store.specs.declared.store.FileStore.{FileStore}
 use Rattle.pool_journal.{proofs.Loose.{loose_high}, specs.{Maps.{entries_of}, Pools.{pool_home_count}}}
 use Rattle.pool_store.specs.Files as InPool
@@ -14,37 +12,33 @@ use Rattle.pool_store.specs.Pools.IsBadPool.{Unmarked as NoMark, OtherKind}
 use Rattle.pool_store.specs.Resume.{pool_on}
 use Rattle.pool_store.specs.Store.{IsReadyPool}
 use Rattle.pool_store.specs.declared.store.PoolStore.{PoolStore}
-use Rattle.sync_journal.specs.{Commit.{IsAtRest}, Kinds.{IsRestOf, kind_of, turn_kind}, Turns.{IsTurnSector}}
-use Rattle.sync_journal.specs.declared.store_journal.Journals.{Journals}
-use Rattle.sync_journal.specs.declared.store_journal.Journals.TheVariants.{Single, Paired}
-use Rattle.sync_journal.specs.declared.store_journal.StoreJournal.{StoreJournal}
-use Rattle.sync_journal.specs.declared.store_journal.StoreJournal.TheVariants.{One, InTurn}
+use Rattle.sync_journal.specs.{Commit.{IsAtRest}, Journal.{live_homes}}
 use Rattle.stores.proofs.Heads.{is_marked, mark_of as of_pool, blocks_are, pages_are, same_mark, same_blocks, same_pages}
 use Rattle.stores.specs.Images.{is_pool, map_blocks, directory_pages, says_by, SaysFiles, StandsFor, StandsAs}
+use Rattle.stores.specs.Store.{disk_of, IsReadyStore}
+use Rattle.stores.specs.declared.{store.Store.{Store}, store.Store.TheVariants.{Journal, Pool}}
 
--- the mark of a pool is that of neither other layout, at its eighth byte
-other_mark : (kind : Journals) → pool_mark ≡ mark_of (version_at kind) → ⊥
-unfolding mark pool_mark turn_kind
-other_mark Single same = let eighth : 52 ≡ 50 = ap (λ (s : List ℕ). get_or s 7 0) same in omega (arith, eighth)
-other_mark Paired same = let eighth : 52 ≡ 51 = ap (λ (s : List ℕ). get_or s 7 0) same in omega (arith, eighth)
+-- the mark of a pool is not that of layout 2, at its eighth byte
+other_mark : pool_mark ≡ mark → ⊥
+unfolding mark pool_mark
+other_mark same = let eighth : 52 ≡ 50 = ap (λ (s : List ℕ). get_or s 7 0) same in omega (arith, eighth)
 
--- an image that stands for files by the words of layouts 2 and 3 has no mark of a pool
-pub kind_unmarked : (sectors : ℕ) (files : ℕ → Option FileInfo) (pages : ℕ → ℕ → List ℕ) (image : Image) → ByKind.StandsFor sectors files pages image → is_pool image ≡ false
+-- an image that stands for files by the words of layout 2 has no mark of a pool
+pub kind_unmarked : (sectors : ℕ) (files : ℕ → Option FileInfo) (pages : ℕ → ℕ → List ℕ) (image : Image) → InFiles.StandsFor sectors files pages image → is_pool image ≡ false
 kind_unmarked sectors files pages image stands = from (is_pool image) refl
   where
     from : (b : Bool) → is_pool image ≡ b → is_pool image ≡ false
     from false is = is
-    from true is = absurd (stands.layout (Unmarked (λ other. other_mark (kind_of image) (sym (of_pool image is) ∙ other))))
+    from true is = absurd (stands.layout (Unmarked (λ other. other_mark (sym (of_pool image is) ∙ other))))
 
--- what it says by those words alone
-by_kind_says : (sectors : ℕ) (files : ℕ → Option FileInfo) (pages : ℕ → ℕ → List ℕ) (image : Image) → ByKind.StandsFor sectors files pages image → SaysFiles (says_by false sectors image) files pages
-by_kind_says sectors files pages image stands = record { layout = stands.layout; journal = stands.journal; facts = stands.facts; same = stands.same }
+kind_says : (sectors : ℕ) (files : ℕ → Option FileInfo) (pages : ℕ → ℕ → List ℕ) (image : Image) → InFiles.StandsFor sectors files pages image → SaysFiles (says_by false sectors image) files pages
+kind_says sectors files pages image stands = record { layout = stands.layout; journal = stands.journal; facts = stands.facts; same = stands.same }
 
-pub from_kind : (sectors : ℕ) (files : ℕ → Option FileInfo) (pages : ℕ → ℕ → List ℕ) (image : Image) → ByKind.StandsFor sectors files pages image → StandsFor sectors files pages image
+pub from_kind : (sectors : ℕ) (files : ℕ → Option FileInfo) (pages : ℕ → ℕ → List ℕ) (image : Image) → InFiles.StandsFor sectors files pages image → StandsFor sectors files pages image
 from_kind sectors files pages image stands = subst (λ b. SaysFiles (says_by b sectors image) files pages) (sym (kind_unmarked sectors files pages image stands))
-    (by_kind_says sectors files pages image stands)
+    (kind_says sectors files pages image stands)
 
-pub to_kind : (sectors : ℕ) (files : ℕ → Option FileInfo) (pages : ℕ → ℕ → List ℕ) (image : Image) → is_pool image ≡ false → StandsFor sectors files pages image → ByKind.StandsFor sectors files pages image
+pub to_kind : (sectors : ℕ) (files : ℕ → Option FileInfo) (pages : ℕ → ℕ → List ℕ) (image : Image) → is_pool image ≡ false → StandsFor sectors files pages image → InFiles.StandsFor sectors files pages image
 to_kind sectors files pages image unmarked stands =
     let says = subst (λ b. SaysFiles (says_by b sectors image) files pages) unmarked stands in
     record { layout = says.layout; journal = says.journal; facts = says.facts; same = says.same }
@@ -96,37 +90,33 @@ module _ (m d n sectors : ℕ) (homes : n ≡ pool_home_count m sectors) where
   pub as_pool : (old image : Image) → IsHeaded m d old → InPool.StandsAs (files_in_pool m d n) sectors old image → StandsAs sectors old image
   as_pool old image head stays files pages was = from_pool files pages image (stays files pages (to_pool files pages old head was))
 
-pub as_kind : (sectors : ℕ) (old image : Image) → is_pool old ≡ false → ByKind.StandsAs sectors old image → StandsAs sectors old image
+pub as_kind : (sectors : ℕ) (old image : Image) → is_pool old ≡ false → InFiles.StandsAs sectors old image → StandsAs sectors old image
 as_kind sectors old image unmarked stays files pages was = from_kind sectors files pages image (stays files pages (to_kind sectors files pages old unmarked was))
-
--- the mark lies before both journals of a pair
-turn_low : (second : Bool) → IsTurnSector second 0 → ⊥
-turn_low false low = omega (arith, low.0)
-turn_low true low = omega (arith, low.0)
 
 -- an image's head is that of another with the same mark and kind
 head_same : (m d : ℕ) (old image : Image) → image 0 ≡ old 0 → image 1 ≡ old 1 → IsHeaded m d old → IsHeaded m d image
 head_same m d old image first second head = record { mark = same_mark old image first ∙ head.mark; blocks = same_blocks old image second ∙ head.blocks; pages = same_pages old image second ∙ head.pages }
 
 module _ {D : Type 0} (g : Ghosts D) where
-  -- at rest the mark is synced
-  one_synced : (live : List ℕ) (d : D) → IsAtRest g live d → g.unsynced d 0 → ⊥
-  one_synced [] d rest unsynced = let low = rest.synced 0 unsynced in omega (arith, low.0)
-  one_synced (home ∷ homes) d rest unsynced = rest.synced 0 unsynced
+  -- at rest mark and directory are synced,
+  front_at_rest : (live : List ℕ) (d : D) → IsAtRest g live d → (k : ℕ) → k < 2 → g.unsynced d k → ⊥
+  front_at_rest [] d rest k low unsynced = let inside = rest.synced k unsynced in omega (arith, inside.0, low)
+  front_at_rest (home ∷ homes) d rest k low unsynced = rest.synced k unsynced
 
-  mark_synced : (journal : StoreJournal) (d : D) → IsRestOf g journal d → g.unsynced d 0 → ⊥
-  mark_synced (One journal) d rest unsynced = one_synced _ d rest unsynced
-  mark_synced (InTurn journal) d rest unsynced = turn_low _ (rest.synced 0 unsynced)
+  -- and so are mark and kind, as a ready store has them
+  pub front_synced : (store : Store D) → IsReadyStore g store → g.keeps_model (disk_of store) → (k : ℕ) → k < 2 → g.unsynced (disk_of store) k → ⊥
+  front_synced (Journal store) ready keeps k low unsynced = front_at_rest (live_homes store.journal) store.disk (ready.0.at_rest keeps).journal k low unsynced
+  front_synced (Pool store) ready keeps k low unsynced =
+      loose_high store.journal.sizes.blocks store.journal.second (entries_of store.journal.map) k ((ready.at_rest keeps).rest.synced k unsynced) (omega (arith, low))
 
   -- what is synced a stop leaves
   left : (d : D) (k : ℕ) → (g.unsynced d k → ⊥) → (c : Image) → MayLeave (g.content d) (g.unsynced d) c → c k ≡ g.content d k
   left d k synced c may = ⊎_elim (λ unsynced. absurd (synced unsynced)) (λ e. e) (may.kept k)
 
   -- what a device may leave on which such a store is ready has the mark, and the kind, that it has
-  pub left_of_kind : (store : FileStore D) → KindStore.IsReadyStore g store → g.keeps_model store.disk → is_pool (g.content store.disk) ≡ false
-      → LeavesNow g store.disk (λ image. is_pool image ≡ false)
-  left_of_kind store ready keeps unmarked c may =
-      same_mark (g.content store.disk) c (left store.disk 0 (mark_synced store.journal store.disk (ready.at_rest keeps).journal.rest) c may) ∙ unmarked
+  pub left_of_kind : (store : FileStore D) → IsReadyStore g (Journal store) → g.keeps_model store.disk → LeavesNow g store.disk (λ image. is_pool image ≡ false)
+  left_of_kind store ready keeps c may =
+      same_mark (g.content store.disk) c (left store.disk 0 (front_synced (Journal store) ready keeps 0 (omega arith)) c may) ∙ ready.1 keeps
 
   pub head_of : (store : PoolStore D) → IsReadyPool g store → g.keeps_model store.disk
       → IsHeaded store.journal.sizes.blocks store.directory.pages (g.content store.disk)
@@ -139,10 +129,7 @@ module _ {D : Type 0} (g : Ghosts D) where
 
   pub left_of_pool : (store : PoolStore D) → IsReadyPool g store → g.keeps_model store.disk
       → LeavesNow g store.disk (IsHeaded store.journal.sizes.blocks store.directory.pages)
-  left_of_pool store ready keeps c may =
-      let rest = (ready.at_rest keeps).rest in
-      let m = store.journal.sizes.blocks in
-      head_same m store.directory.pages (g.content store.disk) c
-      (left store.disk 0 (λ unsynced. loose_high m store.journal.second (entries_of store.journal.map) 0 (rest.synced 0 unsynced) (omega arith)) c may)
-      (left store.disk 1 (λ unsynced. loose_high m store.journal.second (entries_of store.journal.map) 1 (rest.synced 1 unsynced) (omega arith)) c may)
+  left_of_pool store ready keeps c may = head_same store.journal.sizes.blocks store.directory.pages (g.content store.disk) c
+      (left store.disk 0 (front_synced (Pool store) ready keeps 0 (omega arith)) c may)
+      (left store.disk 1 (front_synced (Pool store) ready keeps 1 (omega arith)) c may)
       (head_of store ready keeps)

@@ -3,21 +3,21 @@ use Rattle.std.specs.Prelude.{ℕ, ◌<◌, ◌≤◌, ◌≡◌, ◌⊎◌, Lis
 use Rattle.vm_types.specs.declared.file.{FileInfo.{FileInfo}, FilePage.{FilePage}}
 use Rattle.disk_model.specs.{Moments.{Touches, AsksOnly, LeavesOnly, LeavesNow}, Stop.{Image}}
 use Rattle.disk_model.specs.declared.sector_disk.SectorDisk.{Ghosts}
-use Rattle.sync_journal.specs.{Blocks.{StoreCommitsInBlocks}, Kinds.{by_kind}, Layouts.{HomesStandAs}, Source.{HasCauses, Asks}}
+use Rattle.sync_journal.specs.{Commit.{one_journal}, Journal.{live_homes}, Layouts.{HomesStandAs}, Source.{HasCauses, Asks}}
 use Rattle.sync_journal.specs.declared.faults.CommitFault.{CommitFault}
 use Rattle.sync_journal.specs.declared.faults.CommitFault.TheVariants.{Source}
 use Rattle.sync_journal.specs.declared.source.PageSource.{Ghosts as SourceGhosts}
 use Rattle.pool_journal.specs.{Committing.{PoolCommitsInBlocks}, Maps.{entries_of}, Pools.{pool, IsSingle}, Recovering.{state_of}}
 use Rattle.file_store.specs.{Commit.{Changes}, Standing.{IsPageOf}}
-use Rattle.file_store.specs.Store as ByKind
+use Rattle.file_store.specs.Store as InFiles
 use Rattle.pool_store.specs.{Commit.{PutsHomes as PoolPuts}, Places.{homes_of_pages as pool_homes}, Pools.{files_in_pool}}
-use Rattle.stores.specs.Images.{StandsFor, StandsForEither}
-use Rattle.stores.specs.Store.{StoreKept, StoreKept.{OfJournals, OfPool}, disk_of, kept_of, directory_of, free_of, always_free_in, IsUsedIn, IsCommittedIn, IsReadyStore}
+use Rattle.stores.specs.Images.{StandsFor, StandsForEither, SaysMostOf}
+use Rattle.stores.specs.Store.{StoreKept, StoreKept.{OfJournal, OfPool}, disk_of, kept_of, directory_of, free_of, always_free_in, IsUsedIn, IsCommittedIn, IsReadyStore}
 use Rattle.stores.specs.declared.store.Store.{Store}
 
--- so many pages at least, and so many at most, inside their files, none twice
-pub record ArePages (files : ℕ → Option FileInfo) (least most : ℕ) (list : List FilePage) : Type 0 where
-  pub some : least ≤ length list
+-- one page at least, and so many at most, inside their files, none twice
+pub record ArePages (files : ℕ → Option FileInfo) (most : ℕ) (list : List FilePage) : Type 0 where
+  pub some : 1 ≤ length list
   pub few : length list ≤ most
   pub inside : (i : ℕ) (p : FilePage) → slice_get list i ≡ Some p → IsPageOf files p.file p.page
   pub distinct : (i j : ℕ) (p : FilePage) → i < j → slice_get list i ≡ Some p → slice_get list j ≡ Some p → ⊥
@@ -25,12 +25,12 @@ pub record ArePages (files : ℕ → Option FileInfo) (least most : ℕ) (list :
 -- The pages of a list stand for their homes, with zeros past their files' ends, and every other home stands as it did; or all homes stand as they did;
 -- or either of both.
 abbrev pub PutsHomesIn : StoreKept → ℕ → List FilePage → (ℕ → List ℕ) → Image → Image → Type 0
-PutsHomesIn (OfJournals directory journal) sectors list given old new = ByKind.PutsHomes sectors directory list given old new
+PutsHomesIn (OfJournal directory journal) sectors list given old new = InFiles.PutsHomes sectors directory list given old new
 PutsHomesIn (OfPool directory journal) sectors list given old new =
     PoolPuts (files_in_pool journal.sizes.blocks directory.pages journal.sizes.homes) sectors directory list given old new
 
 abbrev pub KeepsHomesIn : StoreKept → ℕ → Image → Image → Type 0
-KeepsHomesIn (OfJournals directory journal) sectors old new = HomesStandAs by_kind sectors old new
+KeepsHomesIn (OfJournal directory journal) sectors old new = HomesStandAs one_journal sectors old new
 KeepsHomesIn (OfPool directory journal) sectors old new = HomesStandAs (pool journal.sizes.blocks journal.sizes.homes) sectors old new
 
 abbrev pub PutsHomesOrNone : StoreKept → ℕ → List FilePage → (ℕ → List ℕ) → Image → Image → Type 0
@@ -38,19 +38,19 @@ PutsHomesOrNone kept sectors list given old new = KeepsHomesIn kept sectors old 
 
 -- no home has two slots of a pool
 abbrev pub IsSingleIn : StoreKept → Type 0
-IsSingleIn (OfJournals directory journal) = Unit {0}
+IsSingleIn (OfJournal directory journal) = Unit {0}
 IsSingleIn (OfPool directory journal) = IsSingle journal.sizes.blocks (entries_of journal.map)
 
 module _ {D : Type 0} (g : Ghosts D) where
   -- A commit of these pages asks for no sector more often than it takes,
   abbrev pub AsksOnceIn : StoreKept → List FilePage → D → D → Type 0
-  AsksOnceIn (OfJournals directory journal) list old new = by_kind.AsksOnce g journal (ByKind.homes_of_pages directory list) old new
+  AsksOnceIn (OfJournal directory journal) list old new = one_journal.AsksOnce g (live_homes journal) (InFiles.homes_of_pages directory list) old new
   AsksOnceIn (OfPool directory journal) list old new =
       (pool journal.sizes.blocks journal.sizes.homes).AsksOnce g (state_of journal) (pool_homes directory list) old new
 
-  -- and of layouts 3 and 4 leaves what it says also where a stop spoils whole blocks of 4,096 bytes.
+  -- and of layout 4 leaves what it says also where a stop spoils whole blocks of 4,096 bytes.
   abbrev pub CommitsInBlocksIn : StoreKept → (Image → Type 0) → D → D → Type 0
-  CommitsInBlocksIn (OfJournals directory journal) P old new = StoreCommitsInBlocks g journal P old new
+  CommitsInBlocksIn (OfJournal directory journal) P old new = Unit {0}
   CommitsInBlocksIn (OfPool directory journal) P old new = PoolCommitsInBlocks g journal.sizes.blocks journal.second (entries_of journal.map) P old new
 
 module _ {D S : Type 0} (g : Ghosts D) (s : SourceGhosts S) where
@@ -77,6 +77,9 @@ module _ {D S : Type 0} (g : Ghosts D) (s : SourceGhosts S) where
         → LeavesNow g (disk_of old) (StandsFor (g.sector_count (disk_of old)) files before)
         → Changes files list (s.pages given) before after
         → CommitsInBlocksIn g (kept_of old) (StandsForEither (g.sector_count (disk_of old)) files before after) (disk_of old) (disk_of new)
+    -- Every commit may take as many pages as before, as every such image says.
+    pub most_moment : g.keeps_model (disk_of new) → LeavesOnly g (disk_of old) (disk_of new) (SaysMostOf (g.sector_count (disk_of old)) (g.content (disk_of old)))
+    pub always : always_free_in (kept_of new) ≡ always_free_in (kept_of old)
     -- What stands for the homes, then and meanwhile: the pages, with zeros past their files' ends, and for every other home what stood for it.
     pub homes : g.keeps_model (disk_of new) → s.keeps_model given'
         → OnOk result (LeavesNow g (disk_of new) (PutsHomesIn (kept_of old) (g.sector_count (disk_of old)) list (s.pages given) (g.content (disk_of old))))
@@ -97,7 +100,6 @@ module _ {D S : Type 0} (g : Ghosts D) (s : SourceGhosts S) where
     pub room_after_source : IsErrOf result Source → free_of new ≡ free_of old
     -- Directory and size are kept.
     pub files : directory_of new ≡ directory_of old
-    pub always : always_free_in (kept_of new) ≡ always_free_in (kept_of old)
     pub size : g.sector_count (disk_of new) ≡ g.sector_count (disk_of old)
     pub kept : g.keeps_model (disk_of new) → g.keeps_model (disk_of old)
     pub single : IsSingleIn (kept_of old) → OnOk result (IsSingleIn (kept_of new))

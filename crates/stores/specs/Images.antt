@@ -1,14 +1,14 @@
--- The files that an image of a store stands for, of layout 2, 3 or 4. Layout 4 has a mark of its own; which of the other two it is says sector 1.
+-- The files that an image of a store stands for, of layout 2 or 4, which have marks of their own.
 use Rattle.std.specs.Prelude.{ℕ, ◌*◌, ◌≡◌, ◌⊎◌, Bool, true, false, List, drop, Option}
 use Rattle.std.specs.Option.{option_map}
 use Rattle.std.specs.Str.{bytes_eq}
 use Rattle.byteorder.specs.Endian.{little_number}
 use Rattle.vm_types.specs.declared.file.FileInfo.{FileInfo}
 use Rattle.disk_model.specs.{Stop.{Image}}
-use Rattle.sync_journal.specs.{Kinds.{by_kind}, Layout.{page_limit}}
+use Rattle.sync_journal.specs.{Commit.{one_journal}, Layout.{page_limit}}
 use Rattle.pool_journal.specs.{Journal.{free_count}, Pools.{pool_entry, pool_home_count, pool_named}}
 use Rattle.file_store.specs.Layout.{pool_mark}
-use Rattle.file_store.specs.Standing as ByKind
+use Rattle.file_store.specs.Standing as InFiles
 use Rattle.file_store.specs.Standing.{IsPageOf, bytes_of_pages}
 use Rattle.pool_store.specs.Files.{StoreLayout, info_in, page_in}
 use Rattle.pool_store.specs.Resume.{pool_on}
@@ -52,16 +52,16 @@ pub record ImageSays : Type 1 where
 -- by whether it is one of a pool, on a device of so many sectors
 abbrev pub says_by : Bool → ℕ → Image → ImageSays
 says_by false sectors image = record {
-  info = ByKind.file_info image;
-  page = ByKind.standing_page image;
-  HasBadLayout = ByKind.IsBadLayout sectors image;
-  HasBadJournal = ByKind.IsBadJournal sectors image;
+  info = InFiles.file_info image;
+  page = InFiles.standing_page image;
+  HasBadLayout = InFiles.IsBadLayout sectors image;
+  HasBadJournal = InFiles.IsBadJournal sectors image;
   most = page_limit;
   free = page_limit;
-  IsClosed = by_kind.IsClosed image;
-  IsOutside = by_kind.IsOutside image sectors;
-  IsAsked = ByKind.IsAskedToOpen image;
-  IsWritten = by_kind.IsRecovered image sectors;
+  IsClosed = one_journal.IsClosed image;
+  IsOutside = one_journal.IsOutside image sectors;
+  IsAsked = InFiles.IsAskedToOpen image;
+  IsWritten = one_journal.IsRecovered image sectors;
 }
 says_by true sectors image = record {
   info = info_in (pool_of sectors image) image;
@@ -130,6 +130,18 @@ StandsFor sectors files pages image = SaysFiles (says sectors image) files pages
 -- the files with the pages of before, or with those of after
 abbrev pub StandsForEither : ℕ → (ℕ → Option FileInfo) → (ℕ → ℕ → List ℕ) → (ℕ → ℕ → List ℕ) → Image → Type 0
 StandsForEither sectors files before after image = StandsFor sectors files before image ⊎ StandsFor sectors files after image
+
+-- how many pages a commit may take where no page stands in a slot: of a pool as many as both bodies have
+abbrev pub capacity_by : Bool → ℕ → ℕ
+capacity_by false most = most
+capacity_by true most = 2 * most
+
+abbrev pub capacity_pages : ℕ → Image → ℕ
+capacity_pages sectors image = capacity_by (is_pool image) (most_pages sectors image)
+
+-- every commit may take as many pages as the other image says
+abbrev pub SaysMostOf : ℕ → Image → Image → Type 0
+SaysMostOf sectors old image = most_pages sectors image ≡ most_pages sectors old
 
 -- it stands for what the other image stands for
 abbrev pub StandsAs : ℕ → Image → Image → Type 0

@@ -3,20 +3,20 @@ use Rattle.std.specs.Prelude.{ℕ, zero, suc, ◌<◌, ◌≤◌, ◌≡◌, ◌
 use Rattle.disk_model.specs.Moments.{Touches, AsksOnly, Nothing, LeavesOnly, LeavesNow}
 use Rattle.disk_model.specs.Stop.{Image}
 use Rattle.disk_model.specs.declared.sector_disk.SectorDisk.{Ghosts}
-use Rattle.sync_journal.specs.Kinds.{store_live}
+use Rattle.sync_journal.specs.Journal.{live_homes}
 use Rattle.pool_journal.specs.{Pools.{pool, pool_named}, Recovering.{GivesAsNamed}}
 use Rattle.file_store.specs.Standing.{AreBounded}
 use Rattle.pool_store.specs.Resume.{HasPoolHead}
-use Rattle.stores.specs.Images.{is_pool, most_pages, IsBadLayout, IsBadJournal, IsClosed, IsOutside, IsAskedToOpen, IsWrittenToOpen, StandsAs}
-use Rattle.stores.specs.Store.{StoreKept, StoreKept.{OfJournals, OfPool}, disk_of, kept_of, files_of, always_free_in, IsReadyStore}
+use Rattle.stores.specs.Images.{is_pool, most_pages, IsBadLayout, IsBadJournal, IsClosed, IsOutside, IsAskedToOpen, IsWrittenToOpen, SaysMostOf, StandsAs}
+use Rattle.stores.specs.Store.{StoreKept, StoreKept.{OfJournal, OfPool}, disk_of, kept_of, files_of, always_free_in, IsReadyStore}
 use Rattle.stores.specs.declared.faults.OpenFault.{OpenFault}
 use Rattle.stores.specs.declared.faults.OpenFault.TheVariants.{Device, BadLayout, BadJournal, Memory}
 use Rattle.stores.specs.declared.store.Store.{Store}
 
--- What a stop left in this image is carried out: of layouts 2 and 3 no page stands in a journal alone any more; of a pool the map is the one that its gate
+-- What a stop left in this image is carried out: of layout 2 no page stands in the journal alone any more; of a pool the map is the one that its gate
 -- named, and if that gave a slot to a home it is written anew, in the place of the other one, which the gate then names.
 abbrev pub IsCarriedOut : StoreKept → Image → Type 0
-IsCarriedOut (OfJournals directory journal) image = store_live journal ≡ []
+IsCarriedOut (OfJournal directory journal) image = live_homes journal ≡ []
 IsCarriedOut (OfPool directory journal) image = GivesAsNamed journal.sizes journal.map image
     × (((pool journal.sizes.blocks journal.sizes.homes).IsClosed image → ⊥) → journal.second ≡ not (pool_named image))
 
@@ -33,8 +33,10 @@ module _ {D : Type 0} (g : Ghosts D) where
     pub touches : g.keeps_model new → Touches g (IsWrittenToOpen (g.sector_count old) (g.content old)) old new
     pub closed_unwritten : g.keeps_model new → IsClosed (g.sector_count old) (g.content old) → Touches g Nothing old new
     pub outside : g.keeps_model new → (k : ℕ) → IsOutside (g.sector_count old) (g.content old) k → g.content new k ≡ g.content old k
-    -- and where nothing was unsynced, as after a stop, every image of a stop at any moment of the call stands for what the device stood for at first.
+    -- and where nothing was unsynced, as after a stop, every image of a stop at any moment of the call stands for what the device stood for at first, and
+    -- says of commits what that said.
     pub any_moment : g.keeps_model new → ((k : ℕ) → g.unsynced old k → ⊥) → LeavesOnly g old new (StandsAs (g.sector_count old) (g.content old))
+    pub most_moment : g.keeps_model new → ((k : ℕ) → g.unsynced old k → ⊥) → LeavesOnly g old new (SaysMostOf (g.sector_count old) (g.content old))
 
   -- The store on a device is opened:
   pub record OpensFrom (old : D) (store : Store D) : Type 0 where
@@ -50,7 +52,7 @@ module _ {D : Type 0} (g : Ghosts D) where
     pub synced : g.keeps_model (disk_of store) → (k : ℕ) → g.unsynced (disk_of store) k → ⊥
     -- every commit may take as many pages as the image says;
     pub most : g.keeps_model (disk_of store) → always_free_in (kept_of store) ≡ most_pages (g.sector_count old) (g.content old)
-    -- what a stop left is carried out, so that of layouts 2 and 3 the next opening writes nothing;
+    -- what a stop left is carried out, so that of layout 2 the next opening writes nothing;
     pub carried : g.keeps_model (disk_of store) → IsCarriedOut (kept_of store) (g.content old)
     pub emptied : g.keeps_model (disk_of store) → is_pool (g.content old) ≡ false → IsClosed (g.sector_count old) (g.content (disk_of store))
     -- and the device did not fail.
@@ -82,8 +84,9 @@ module _ {D : Type 0} (g : Ghosts D) where
       pub size : g.sector_count old ≡ sectors
       pub held : g.content old ≡ image
       pub synced : (k : ℕ) → g.unsynced old k → ⊥
-      -- every image of a stop during it stands for what this one stood for.
+      -- every image of a stop during it stands for what this one stood for, and says of commits what this one said.
       pub stands : LeavesOnly g old new (StandsAs (g.sector_count old) (g.content old))
+      pub most : LeavesOnly g old new (SaysMostOf (g.sector_count old) (g.content old))
 
     -- The last image is one that n stops in a row may leave: the first of them within an opening of the first image, and each other one within an opening
     -- of what the stop before it left.

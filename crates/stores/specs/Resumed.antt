@@ -1,29 +1,35 @@
 -- A store of which nothing is unsynced, taken up as it stands.
-use Rattle.std.specs.Prelude.{ℕ, ◌≡◌, true}
+use Rattle.std.specs.Prelude.{ℕ, ◌≡◌, true, []}
 use Rattle.disk_model.specs.Moments.{Touches, Nothing, LeavesNow}
 use Rattle.disk_model.specs.Stop.{Image}
 use Rattle.disk_model.specs.declared.sector_disk.SectorDisk.{Ghosts}
-use Rattle.sync_journal.specs.Resuming.{IsLiveAsNamed}
+use Rattle.sync_journal.specs.Journal.{live_homes}
 use Rattle.pool_journal.specs.{Pools.{pool_named}, Recovering.{GivesAsNamed}}
 use Rattle.file_store.specs.Standing.{AreBounded}
 use Rattle.stores.specs.Images.{is_pool, most_pages, free_pages, IsBadLayout, IsBadJournal, StandsAs}
-use Rattle.stores.specs.Opened.{RunsOpening}
-use Rattle.stores.specs.Store.{StoreKept, StoreKept.{OfJournals, OfPool}, disk_of, kept_of, files_of, free_of, always_free_in, IsReadyStore}
+use Rattle.stores.specs.Opened.{RefusesToOpen, RunsOpening}
+use Rattle.stores.specs.Store.{StoreKept, StoreKept.{OfJournal, OfPool}, disk_of, kept_of, files_of, free_of, always_free_in, IsReadyStore}
+use Rattle.stores.specs.declared.faults.OpenFault.{OpenFault}
 use Rattle.stores.specs.declared.store.Store.{Store}
 
--- The journal is as the gate of this image has it: of layouts 2 and 3 what stands in it alone is what the journal that the gate names names; of a pool it has
--- the map that the gate names.
+-- The journal is as this image has it: of layout 2 no page stands in it alone any more; of a pool it has the map that the gate names.
 abbrev pub IsAsNamed : StoreKept → Image → Type 0
-IsAsNamed (OfJournals directory journal) image = IsLiveAsNamed journal image
+IsAsNamed (OfJournal directory journal) image = live_homes journal ≡ []
 IsAsNamed (OfPool directory journal) image = (journal.second ≡ pool_named image) × GivesAsNamed journal.sizes journal.map image
 
 module _ {D : Type 0} (g : Ghosts D) where
+  -- Whatever comes of it,
+  pub record RunsResuming (old new : D) : Type 0 where
+    -- no more is done than by an opening,
+    pub run : RunsOpening g old new
+    pub open run use *
+    -- and of a pool nothing is written.
+    pub pool_unwritten : g.keeps_model new → is_pool (g.content old) ≡ true → Touches g Nothing old new
+
   -- The store on a device is taken up as it stands:
   pub record ResumesFrom (old : D) (store : Store D) : Type 0 where
-    -- no more is done than by an opening, and of a pool nothing is written;
-    pub run : RunsOpening g old (disk_of store)
-    pub open run use *
-    pub pool_unwritten : g.keeps_model (disk_of store) → is_pool (g.content old) ≡ true → Touches g Nothing old (disk_of store)
+    pub resuming : RunsResuming old (disk_of store)
+    pub open resuming use *
     -- it may be read and committed to, and its files' numbers and lengths are in their bounds;
     pub ready : IsReadyStore g store
     pub bounded : AreBounded (files_of store)
@@ -38,3 +44,8 @@ module _ {D : Type 0} (g : Ghosts D) where
     pub most : g.keeps_model (disk_of store) → always_free_in (kept_of store) ≡ most_pages (g.sector_count old) (g.content old)
     -- and the device did not fail.
     pub calm : g.failures (disk_of store) ≡ g.failures old
+
+  -- The device is given back with this fault, as by an opening:
+  pub record RefusesToResume (old : D) (fault : OpenFault) (new : D) : Type 0 where
+    pub refused : RefusesToOpen g old fault new
+    pub resuming : RunsResuming old new

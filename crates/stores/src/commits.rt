@@ -1,6 +1,6 @@
 //! Pages of files changed all at once.
 ghost use Rattle.std.specs.Prelude.{◌<◌, ℕ, length};
-ghost use Rattle.stores.specs.Store.{files_of, free_of, least_of, IsReadyStore};
+ghost use Rattle.stores.specs.Store.{files_of, free_of, IsReadyStore};
 ghost use Rattle.stores.specs.Commit.{ArePages, CommitsPages};
 
 use crate::store::Store;
@@ -11,8 +11,7 @@ use vm_types::FilePage;
 impl<D: SectorDisk> Store<D> {
     /// Makes pages of files durable all at once, in all files of the list: page `pages[i]` becomes page `i` of the
     /// source, with zeros past its file's end. There are 1 to `free_pages` pages, none twice, each of which begins inside
-    /// its file; whether a file may only be read is not looked at. The source is asked for them in an order of the store's. Of layout 4
-    /// there may be none: such a commit makes room for the next, so that as many pages are free as a body of the pool has slots.
+    /// its file; whether a file may only be read is not looked at. The source is asked for them in an order of the store's.
     ///
     /// # Errors
     ///
@@ -25,12 +24,12 @@ impl<D: SectorDisk> Store<D> {
         source: &mut S,
     ) -> Result<(), CommitFault>
         requires ready { IsReadyStore D.SectorDisk self.old }
-        requires pages { ArePages (files_of self.old) (least_of self.old) (free_of self.old) pages.now }
+        requires pages { ArePages (files_of self.old) (free_of self.old) pages.now }
         requires gives { (i : ℕ) → i < length pages.now → S.gives source.old i }
         ensures { CommitsPages D.SectorDisk S.PageSource self.old self.new pages.now source.old source.new result }
     {
         match self {
-            Store::Journals(store) => store.commit(pages, source),
+            Store::Journal(store) => store.commit(pages, source),
             Store::Pool(store) => store.commit(pages, source),
         }
     }

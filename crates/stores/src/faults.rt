@@ -16,7 +16,7 @@ pub enum OpenFault {
     /// The image has no layout of a store, as `file_store` and, where its mark is that of a pool, `pool_store` say it. Nothing was written.
     #[error("{}", KindFault::BadLayout)]
     BadLayout = 2,
-    /// The journal that the gate of a store of layout 2 or 3 names has a map that no commit writes. Nothing was written.
+    /// The gate of a store of layout 2 is open before a map that no commit writes. Nothing was written.
     #[error("{}", KindFault::BadJournal)]
     BadJournal = 3,
     /// There was no memory for what an open store of a pool keeps there. Nothing was written.

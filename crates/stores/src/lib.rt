@@ -1,7 +1,7 @@
-//! A store of up to 64 files of fixed lengths on a row of sectors, of layout 2, 3 or 4, in one set of words: whichever it is, its pages change all
+//! A store of up to 64 files of fixed lengths on a row of sectors, of layout 2 or 4, in one set of words: whichever it is, its pages change all
 //! at once or not at all, whatever moment the device stops at.
 //!
-//! Sector 0 is the mark: of layout 4 the bytes `FAMSYNC4` 64 times (`pool_store`); of the others `file_store` has the mark and the kind.
+//! Sector 0 is the mark: of layout 4 the bytes `FAMSYNC4` 64 times (`pool_store`), of layout 2 `FAMSYNC2` (`file_store`).
 //! After Park, Kelly and Shen, "Failure-Atomic msync(): A Simple and Efficient Mechanism for Preserving the
 //! Integrity of Durable Data" (EuroSys 2013).
 #![tactic(auto)]

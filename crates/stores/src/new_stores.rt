@@ -7,13 +7,12 @@ ghost use Rattle.stores.specs.NewStores.{store_sectors, FormatsNew, IsSizedNew};
 use disk_model::SectorDisk;
 use file_store::{FileSource, FormatFault};
 use std::io::Read;
-use sync_journal::Journals;
 
 /// A store that is to be made.
 #[derive(Clone, Copy, Debug, PartialEq, Eq)]
 pub enum NewStore {
-    /// Of layout 2, with one journal, or of layout 3, with two in turn.
-    Journals(Journals),
+    /// Of layout 2, whose journal takes one commit.
+    Journal,
     /// Of layout 4, with maps of so many blocks, 1 to 2,048. For each block its pool has 1,008 slots.
     Pool(u32),
 }
@@ -35,19 +34,19 @@ pub fn format<D: SectorDisk, R: Read>(
     ensures { FormatsNew D.SectorDisk store R.remaining sources.old disk.old disk.new result }
 {
     match store {
-        NewStore::Journals(journals) => file_store::format(disk, journals, sources),
+        NewStore::Journal => file_store::format(disk, sources),
         NewStore::Pool(blocks) => pool_store::format(disk, blocks, sources),
     }
 }
 
 /// How many bytes an image of these files has, whose homes end where it ends, or 2^64 - 1 where that is more: for their `H` pages in all
-/// `512 * (8195 + 8 H)` of layout 2, of layout 3 with 16,408 in place of 8,195, and of layout 4 with maps of `M` blocks `512 * (48 + 8080 M + 8 H)`.
+/// `512 * (8195 + 8 H)` of layout 2, and of layout 4 with maps of `M` blocks `512 * (48 + 8080 M + 8 H)`.
 pub fn image_bytes<R>(store: NewStore, sources: &[FileSource<R>]) -> u64
     requires { IsSizedNew store }
     ensures { result ≡ min (sector_bytes * store_sectors store (total_pages sources.now)) (2 ^ 64 - 1) }
 {
     match store {
-        NewStore::Journals(journals) => file_store::image_bytes(journals, sources),
+        NewStore::Journal => file_store::image_bytes(sources),
         NewStore::Pool(blocks) => pool_store::image_bytes(blocks, sources),
     }
 }

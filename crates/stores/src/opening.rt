@@ -1,7 +1,7 @@
 //! A store found on a device.
 ghost use Rattle.std.specs.Prelude.{◌≡◌, ℕ, true, false, MatchResult};
 ghost use Rattle.disk_model.specs.Stop.{Image};
-ghost use Rattle.stores.specs.Images.{is_pool, StandsAs};
+ghost use Rattle.stores.specs.Images.{is_pool, SaysMostOf, StandsAs};
 ghost use Rattle.stores.specs.Opened.{OpensFrom, RefusesToOpen, LeftInARow};
 
 use crate::faults::OpenFault;
@@ -14,7 +14,7 @@ use std::alloc::Global;
 
 impl<D: SectorDisk> Store<D> {
     /// Opens the store on a device, as a stop left it or as whoever had it last in this program: what he wrote may be unsynced still. Its
-    /// mark says which layout it has; all is synced, and what a stop left is carried out: of layouts 2 and 3 an open journal is copied home, of
+    /// mark says which layout it has; all is synced, and what a stop left is carried out: of layout 2 an open journal is copied home, of
     /// layout 4 the map is written anew. What the device did at first is what it does now, and after every stop from now on; and where nothing was
     /// unsynced, so does every image that a stop might leave meanwhile, any number of times in a row.
     ///
@@ -32,16 +32,17 @@ impl<D: SectorDisk> Store<D> {
         let mut disk = disk;
         match has_pool(&mut disk) {
             Ok(true) => open_pool(alloc, disk),
-            Ok(false) => open_journals(disk),
+            Ok(false) => open_journal(disk),
             Err(fault) => Err((OpenFault::from(fault), disk)),
         }
     }
 }
 
 /// It does nothing: its contract is a law. Whatever image any number of stops in a row leave, each within an opening of
-/// what the one before left, stands for the files of the first image.
+/// what the one before left, stands for the files of the first image, and every commit may take as many pages as that one said.
 pub fn stops_in_a_row<D: SectorDisk>(_disk: &D)
-    ensures { (sectors n : ℕ) (first last : Image) → LeftInARow D.SectorDisk sectors n first last → StandsAs sectors first last }
+    ensures stands { (sectors n : ℕ) (first last : Image) → LeftInARow D.SectorDisk sectors n first last → StandsAs sectors first last }
+    ensures most { (sectors n : ℕ) (first last : Image) → LeftInARow D.SectorDisk sectors n first last → SaysMostOf sectors first last }
 {}
 
 /// Opens a store of layout 4.
@@ -55,13 +56,13 @@ fn open_pool<D: SectorDisk>(alloc: Global, disk: D) -> Result<Store<D>, (OpenFau
     }
 }
 
-/// Opens a store of layout 2 or 3.
-fn open_journals<D: SectorDisk>(disk: D) -> Result<Store<D>, (OpenFault, D)>
+/// Opens a store of layout 2.
+fn open_journal<D: SectorDisk>(disk: D) -> Result<Store<D>, (OpenFault, D)>
     requires { D.keeps_model disk → is_pool (D.content disk) ≡ false }
     ensures { MatchResult result (λ store. OpensFrom D.SectorDisk disk store) (λ e. RefusesToOpen D.SectorDisk disk e.0 e.1) }
 {
     match FileStore::open(disk) {
-        Ok(store) => Ok(Store::Journals(store)),
+        Ok(store) => Ok(Store::Journal(store)),
         Err((fault, disk)) => Err((OpenFault::from(fault), disk)),
     }
 }

@@ -1,55 +1,43 @@
 //! Room for the next commit.
-ghost use Rattle.std.specs.Prelude.{replicate};
-ghost use Rattle.stores.specs.Store.{IsReadyStore};
-ghost use Rattle.stores.specs.Rooms.{MakesRoom};
+ghost use Rattle.std.specs.Prelude.{◌≤◌};
+ghost use Rattle.stores.specs.Store.{capacity_in, kept_of, IsReadyStore};
+ghost use Rattle.stores.specs.Rooms.{MakesRoomFor, TidiesStore};
 
 use crate::store::Store;
 use disk_model::{DiskFault, SectorDisk};
-use sync_journal::{PageSource, SourceFault};
-
-/// Pages of zeros as a source. A commit of no pages asks for none of them.
-#[derive(Drop)]
-struct ZeroPages;
-
-impl PageSource for ZeroPages {
-    ghost pages = { λ _ _. replicate 4096 0 };
-
-    ghost gives = { λ _ _. Unit {0} };
-
-    ghost failures = { λ _. 0 };
-
-    ghost keeps_model = { λ _. Unit {0} };
-
-    ghost follows = { λ _ _. Unit {0} };
-
-    fn page(&mut self, _: usize, to: &mut [u8; 4096]) -> Result<(), SourceFault> {
-        *to = [0; 4096];
-        Ok(())
-    }
-
-    ghost stays = { λ _. tt };
-
-    ghost goes_on = { λ _ _ _ _ _. tt };
-}
 
 impl<D: SectorDisk> Store<D> {
-    /// Makes room for a commit of as many pages as every commit may take. As many are free already, and nothing is done, but of layout 4 after a commit
-    /// of more pages than that: then a commit of no pages is made, after which they are.
+    /// Makes room for a commit of so many pages, up to `capacity_pages`. As many are free already, and nothing is done, but of layout 4 where pages stand in
+    /// too many slots: then all of them are copied home, as by `tidy`.
     ///
     /// # Errors
     ///
     /// `DiskFault` comes only where the device failed: every image that a stop might have left stands for what the store stood for, and the store is
     /// not ready until it is opened again.
-    pub fn make_room(&mut self) -> Result<(), DiskFault>
-        requires { IsReadyStore D.SectorDisk self.old }
-        ensures { MakesRoom D.SectorDisk self.old self.new result }
+    pub fn make_room_for(&mut self, count: usize) -> Result<(), DiskFault>
+        requires ready { IsReadyStore D.SectorDisk self.old }
+        requires most { count ≤ capacity_in (kept_of self.old) }
+        ensures { MakesRoomFor D.SectorDisk count self.old self.new result }
     {
-        if self.always_free_pages() <= self.free_pages() {
+        if count <= self.free_pages() {
             return Ok(());
         }
-        match self.commit(&[], &mut ZeroPages) {
-            Ok(()) => Ok(()),
-            Err(_) => Err(DiskFault),
+        self.tidy()
+    }
+
+    /// Copies all pages that stand in slots of a pool to their homes, so that all slots are free: work for a moment of idleness, after which the next commit may take
+    /// `capacity_pages`. It takes 2 syncs. Where no page stands in a slot, and of layout 2, nothing is done.
+    ///
+    /// # Errors
+    ///
+    /// Those of `make_room_for`.
+    pub fn tidy(&mut self) -> Result<(), DiskFault>
+        requires { IsReadyStore D.SectorDisk self.old }
+        ensures { TidiesStore D.SectorDisk self.old self.new result }
+    {
+        match self {
+            Store::Journal(_) => Ok(()),
+            Store::Pool(store) => store.tidy(),
         }
     }
 }

@@ -2,7 +2,7 @@
 ghost use Rattle.std.specs.Prelude.{◌≡◌, ◌<◌, IsSome};
 ghost use Rattle.vm_types.specs.Limits.{file_limit};
 ghost use Rattle.file_store.specs.Standing.{IsPageOf};
-ghost use Rattle.stores.specs.Store.{disk_of, kept_of, files_of, free_of, always_free_in, IsReadyStore, ReadsFilePage};
+ghost use Rattle.stores.specs.Store.{disk_of, kept_of, files_of, free_of, always_free_in, capacity_in, IsReadyStore, ReadsFilePage};
 
 use disk_model::{DiskFault, SectorDisk};
 use file_store::FileStore;
@@ -13,8 +13,8 @@ use vm_types::{FileInfo, FilePage};
 /// Up to 64 files of fixed lengths on a device.
 #[derive(Drop)]
 pub enum Store<D> {
-    /// Of layout 2 or 3: with one journal, or two in turn.
-    Journals(FileStore<D>),
+    /// Of layout 2: with a journal of one commit.
+    Journal(FileStore<D>),
     /// Of layout 4: with a pool.
     Pool(PoolStore<D>),
 }
@@ -25,7 +25,7 @@ impl<D: SectorDisk> Store<D> {
         ensures { result ≡ files_of self.now n }
     {
         match self {
-            Store::Journals(store) => store.file(n),
+            Store::Journal(store) => store.file(n),
             Store::Pool(store) => store.file(n),
         }
     }
@@ -36,7 +36,7 @@ impl<D: SectorDisk> Store<D> {
         ensures number { IsSome result → n < file_limit }
     {
         match self {
-            Store::Journals(store) => store.info(n),
+            Store::Journal(store) => store.info(n),
             Store::Pool(store) => store.info(n),
         }
     }
@@ -46,7 +46,7 @@ impl<D: SectorDisk> Store<D> {
         ensures { result.now ≡ disk_of self.now }
     {
         match self {
-            Store::Journals(store) => store.disk(),
+            Store::Journal(store) => store.disk(),
             Store::Pool(store) => store.disk(),
         }
     }
@@ -56,31 +56,42 @@ impl<D: SectorDisk> Store<D> {
         ensures { result ≡ disk_of self }
     {
         match self {
-            Store::Journals(store) => store.into_disk(),
+            Store::Journal(store) => store.into_disk(),
             Store::Pool(store) => store.into_disk(),
         }
     }
 
-    /// How many pages the next commit may take: of layouts 2 and 3 always 1,023; of layout 4 as many as are free, which are at least as many as a
+    /// How many pages the next commit may take: of layout 2 always 1,023; of layout 4 as many as are free, which are at least as many as a
     /// body of the pool has slots, after commits of no more pages than that.
     pub fn free_pages(&self) -> usize
         requires { IsReadyStore D.SectorDisk self.now }
         ensures { result ≡ free_of self.now }
     {
         match self {
-            Store::Journals(_) => PAGE_LIMIT,
+            Store::Journal(_) => PAGE_LIMIT,
             Store::Pool(store) => store.free_pages(),
         }
     }
 
-    /// How many pages every commit may take, as long as none took more: of layouts 2 and 3 1,023, of layout 4 as many as a body of the pool has slots.
+    /// How many pages every commit may take, as long as none took more: of layout 2 1,023, of layout 4 as many as a body of the pool has slots.
     pub fn always_free_pages(&self) -> usize
         requires { IsReadyStore D.SectorDisk self.now }
         ensures { result ≡ always_free_in (kept_of self.now) }
     {
         match self {
-            Store::Journals(_) => PAGE_LIMIT,
+            Store::Journal(_) => PAGE_LIMIT,
             Store::Pool(store) => store.body_pages(),
+        }
+    }
+
+    /// How many pages a commit may take where no page stands in a slot: of layout 2 1,023, of layout 4 as many as both bodies of the pool have slots.
+    pub fn capacity_pages(&self) -> usize
+        requires { IsReadyStore D.SectorDisk self.now }
+        ensures { result ≡ capacity_in (kept_of self.now) }
+    {
+        match self {
+            Store::Journal(_) => PAGE_LIMIT,
+            Store::Pool(store) => 2 * store.body_pages(),
         }
     }
 
@@ -92,7 +103,7 @@ impl<D: SectorDisk> Store<D> {
         ensures { ReadsFilePage D.SectorDisk self.old self.new page to.new result }
     {
         match self {
-            Store::Journals(store) => store.read_page(page, to),
+            Store::Journal(store) => store.read_page(page, to),
             Store::Pool(store) => store.read_page(page, to),
         }
     }

@@ -2,7 +2,7 @@
 ghost use Rattle.std.specs.Prelude.{◌≡◌, ◌<◌, ℕ, true, IfOk, IsTrue, IsFalse, OnOk, Some, get_or, if◌then◌else◌, length, replicate, slice_get};
 ghost use Rattle.file_store.specs.Standing.{IsPageOf};
 ghost use Rattle.vm_types.specs.declared.file.FilePage.{FilePage};
-ghost use Rattle.stores.specs.Store.{disk_of, files_of, free_of, least_of, IsReadyStore};
+ghost use Rattle.stores.specs.Store.{disk_of, files_of, free_of, IsReadyStore};
 ghost use Rattle.stores.specs.Commit.{ArePages};
 
 use disk_model::{SectorDisk, SimDisk};
@@ -12,14 +12,13 @@ use std::fmt::Debug;
 use std::process::Abort;
 use std::test::Fail;
 use stores::{OpenFault, Store};
-use sync_journal::{CommitFault, Journals, PageSource, SourceFault};
+use sync_journal::{CommitFault, PageSource, SourceFault};
 use vm_types::FilePage;
 
 /// A layout of stores.
 #[derive(Clone, Copy)]
 pub(crate) enum Layout {
     Two,
-    Three,
     Four,
 }
 
@@ -82,7 +81,6 @@ impl PageSource for Filled<'_> {
 fn sectors(layout: Layout) -> u64 {
     match layout {
         Layout::Two => 8195 + 8 * 3,
-        Layout::Three => 16_408 + 8 * 3,
         // 4 home pages of the directory are before those of the files, behind maps of one block.
         Layout::Four => 16 + 8080 + 8 * (4 + 3),
     }
@@ -106,8 +104,7 @@ pub(crate) fn made(alloc: Global, layout: Layout) -> Result<SimDisk, Fail> {
     ];
     let mut disk = SimDisk::new(alloc, sectors(layout))?;
     match layout {
-        Layout::Two => file_store::format(&mut disk, Journals::Single, &mut sources)?,
-        Layout::Three => file_store::format(&mut disk, Journals::Paired, &mut sources)?,
+        Layout::Two => file_store::format(&mut disk, &mut sources)?,
         Layout::Four => pool_store::format(&mut disk, 1, &mut sources)?,
     }
     Ok(disk)
@@ -192,23 +189,13 @@ fn are_pages(store: &Store<SimDisk>, pages: &[FilePage]) -> bool
     true
 }
 
-/// The fewest pages of a commit.
-fn least(store: &Store<SimDisk>) -> usize
-    ensures { result ≡ least_of store.now }
-{
-    match store {
-        Store::Journals(_) => 1,
-        Store::Pool(_) => 0,
-    }
-}
-
 /// Fails where no commit may take these pages.
 fn check(store: &Store<SimDisk>, pages: &[FilePage]) -> Result<(), Fail>
     requires { IsReadyStore ⟦<SimDisk as SectorDisk>⟧ store.now }
-    ensures { OnOk result (ArePages (files_of store.now) (least_of store.now) (free_of store.now) pages.now) }
+    ensures { OnOk result (ArePages (files_of store.now) (free_of store.now) pages.now) }
 {
-    if pages.len() < least(store) || pages.len() > store.free_pages() {
-        return Err(Fail::new("too few pages, or too many"));
+    if pages.is_empty() || pages.len() > store.free_pages() {
+        return Err(Fail::new("no page, or too many"));
     }
     if !are_pages(store, pages) {
         return Err(Fail::new("pages that no commit may take"));

@@ -8,11 +8,7 @@ use stores::stops_in_a_row;
 #[test]
 fn a_commit_changes_pages_of_two_files(rt: HostRuntime) -> Result<(), Fail> {
     let alloc = rt.alloc();
-    for (layout, free) in [
-        (Layout::Two, 1023),
-        (Layout::Three, 1023),
-        (Layout::Four, 1008 - 3),
-    ] {
+    for (layout, free) in [(Layout::Two, 1023), (Layout::Four, 1008 - 3)] {
         let mut store = opened(alloc, made(alloc, layout)?)?;
         expect(
             commits(&mut store, &[LOCKED, LAST, FIRST], b"xyz")?,
@@ -37,7 +33,7 @@ fn a_commit_changes_pages_of_two_files(rt: HostRuntime) -> Result<(), Fail> {
 #[test]
 fn a_source_that_fails_leaves_the_pages_before(rt: HostRuntime) -> Result<(), Fail> {
     let alloc = rt.alloc();
-    for layout in [Layout::Two, Layout::Three, Layout::Four] {
+    for layout in [Layout::Two, Layout::Four] {
         let mut store = opened(alloc, made(alloc, layout)?)?;
         let free = store.free_pages();
         expect(is_told(&mut store)?, "a source that fails")?;
@@ -53,7 +49,7 @@ fn a_source_that_fails_leaves_the_pages_before(rt: HostRuntime) -> Result<(), Fa
 #[test]
 fn a_stop_leaves_the_pages_before_or_after(rt: HostRuntime) -> Result<(), Fail> {
     let alloc = rt.alloc();
-    for layout in [Layout::Two, Layout::Three, Layout::Four] {
+    for layout in [Layout::Two, Layout::Four] {
         let disk = left(alloc, &made(alloc, layout)?, None)?;
         let mut store = opened(alloc, left(alloc, &disk, None)?)?;
         expect(commits(&mut store, &[LOCKED, LAST], b"xy")?, "a commit")?;

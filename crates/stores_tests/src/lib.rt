@@ -1,4 +1,4 @@
-//! Tests of stores of any layout over a device in memory: how they are opened, read and committed to, what stands after stops, and what is no store.
+//! Tests of stores of any layout over a device in memory: how they are opened, read, committed to and tidied, what stands after stops, and what is no store.
 #![tactic(auto)]
 
 #[cfg(test)]
@@ -7,3 +7,5 @@ mod bench;
 mod commits;
 #[cfg(test)]
 mod openings;
+#[cfg(test)]
+mod tidying;

@@ -1,7 +1,7 @@
 -- Which sectors the parts of a commit and of a recovery ask for.
-use Rattle.sync_journal.proofs.{Copies.{in_copied}, Names.{◌≡◌, ◌⊎◌, ◌<◌, ◌≤◌, ◌+◌, ◌*◌, ℕ, true, List, [], length, inl, inr, ⊎_elim, refl, sym, subst, arith, cases_eq, Image, Names, NamesOnce, AsksOnly, Ghosts, asks_named, asks_once}}
-use Rattle.sync_journal.{proofs.Names.{asks_then, once_named, once_apart}, specs.{Commit.{AsksInTwo}, Gate.{is_open}, OldJournal.{IsLookedAtIn}, Layout.{Sizes, page_limit, gate_sector, map_sector, first_body_sector, first_home_sector, body_sector, home_sector}}}
-use Rattle.sync_journal.specs.{Layout.{IsPageSector, IsGate, IsMapIn, IsFilledAt, IsStagedAt, IsStaged, IsOpened, IsFinished, IsMovedHome, IsCommitted}, Standing.{IsOpenFor, IsAskedIn, IsCopyFrom}}
+use Rattle.sync_journal.proofs.{Names.{◌≡◌, ◌⊎◌, ◌<◌, ◌≤◌, ◌+◌, ℕ, true, List, length, inl, inr, ⊎_elim, refl, sym, subst, arith, cases_eq, Image, Names, NamesOnce, AsksOnly, Ghosts, asks_named, asks_once}}
+use Rattle.sync_journal.{proofs.Names.{asks_then, once_named, once_apart}, specs.{Commit.{AsksInTwo}, Gate.{is_open}, Layout.{page_limit, gate_sector, map_sector, body_sector, home_sector}}}
+use Rattle.sync_journal.specs.{Layout.{IsPageSector, IsGate, IsBodySector, IsCopied, IsStaged, IsOpened, IsFinished, IsMovedHome, IsCommitted}, Standing.{IsOpenFor, IsAskedIn}}
 
 -- Over how often each sector had been asked for, at three moments.
 module _ (before mid now : ℕ → ℕ) where
@@ -13,17 +13,17 @@ module _ (before mid now : ℕ → ℕ) where
       (once_named (IsPageSector from) (IsPageSector from) before mid (λ k inside. inside) reads)
       (once_named (IsPageSector to) (IsPageSector to) mid now (λ k inside. inside) writes)
 
-  -- a page more is written into the body of the journal that begins at a sector
-  pub filled_more : (start j : ℕ) → NamesOnce (IsFilledAt start j) before mid → Names (IsPageSector (start + 8 + 8 * j)) mid now → NamesOnce (IsFilledAt start (j + 1)) before now
-  filled_more start j so_far page = once_apart (IsFilledAt start j) (IsPageSector (start + 8 + 8 * j)) (IsFilledAt start (j + 1)) before mid now
+  -- a page more is written into the body
+  pub filled_more : (j : ℕ) → NamesOnce (IsBodySector j) before mid → Names (IsPageSector (body_sector j)) mid now → NamesOnce (IsBodySector (j + 1)) before now
+  filled_more j so_far page = once_apart (IsBodySector j) (IsPageSector (body_sector j)) (IsBodySector (j + 1)) before mid now
       (λ k inside. (inside.0, omega (arith, inside.1))) (λ k inside. (omega (arith, inside.0), omega (arith, inside.1))) (λ k first second. omega (arith, first.1, second.0))
-      so_far (once_named (IsPageSector (start + 8 + 8 * j)) (IsPageSector (start + 8 + 8 * j)) mid now (λ k inside. inside) page)
+      so_far (once_named (IsPageSector (body_sector j)) (IsPageSector (body_sector j)) mid now (λ k inside. inside) page)
 
   -- and the map after the body
-  pub staged_asks : (start n : ℕ) → NamesOnce (IsFilledAt start n) before mid → Names (IsPageSector start) mid now → NamesOnce (IsStagedAt start n) before now
-  staged_asks start n so_far map = once_apart (IsFilledAt start n) (IsPageSector start) (IsStagedAt start n) before mid now
+  pub staged_asks : (n : ℕ) → NamesOnce (IsBodySector n) before mid → Names (IsPageSector map_sector) mid now → NamesOnce (IsStaged n) before now
+  staged_asks n so_far map = once_apart (IsBodySector n) (IsPageSector map_sector) (IsStaged n) before mid now
       (λ k inside. (omega (arith, inside.0), inside.1)) (λ k inside. (inside.0, omega (arith, inside.1))) (λ k first second. omega (arith, first.0, second.1))
-      so_far (once_named (IsPageSector start) (IsPageSector start) mid now (λ k inside. inside) map)
+      so_far (once_named (IsPageSector map_sector) (IsPageSector map_sector) mid now (λ k inside. inside) map)
 
   -- and the gate after both
   pub publish_asks : (n : ℕ) → NamesOnce (IsStaged n) before mid → NamesOnce IsGate mid now → NamesOnce (IsOpened n) before now
@@ -32,23 +32,11 @@ module _ (before mid now : ℕ → ℕ) where
       stages opens
 
   -- the gate after the homes
-  pub finish_asks : (homes : List ℕ) → length homes ≤ page_limit → NamesOnce (IsCopyFrom first_body_sector first_home_sector homes [] (length homes)) before mid → NamesOnce IsGate mid now
-      → NamesOnce (IsFinished homes) before now
-  finish_asks homes few copies closes = once_apart (IsCopyFrom first_body_sector first_home_sector homes [] (length homes)) IsGate (IsFinished homes) before mid now
-      (λ k copy. inr (in_copied homes (length homes) k copy)) (λ k gate. inl gate)
-      (λ k copy gate. ⊎_elim (λ page. (let low = page.0 in omega (arith, low, gate))) (λ home. (let low = home.0 in omega (arith, low, gate))) copy.3)
+  pub finish_asks : (homes : List ℕ) → NamesOnce (IsCopied homes (length homes)) before mid → NamesOnce IsGate mid now → NamesOnce (IsFinished homes) before now
+  finish_asks homes copies closes = once_apart (IsCopied homes (length homes)) IsGate (IsFinished homes) before mid now
+      (λ k copy. inr copy) (λ k gate. inl gate)
+      (λ k copy gate. ⊎_elim (λ body. omega (arith, body.0, gate)) (λ home. omega (arith, home.2.0, gate)) copy)
       copies closes
-
--- A look at the journal of a store of the layout before: at the gate,
-pub gate_looked : (sizes : Sizes) (image : Image) (before now : ℕ → ℕ) → Names IsGate before now → NamesOnce (IsLookedAtIn sizes image) before now
-gate_looked sizes image before now gate = once_named (IsLookedAtIn sizes image) IsGate before now (λ k at. inl at) gate
-
--- and where that is open at the map
-pub map_looked : (sizes : Sizes) (image : Image) (before mid now : ℕ → ℕ) → is_open image ≡ true → Names IsGate before mid → NamesOnce (IsMapIn sizes) mid now
-    → NamesOnce (IsLookedAtIn sizes image) before now
-map_looked sizes image before mid now opened gate map = once_apart IsGate (IsMapIn sizes) (IsLookedAtIn sizes image) before mid now
-    (λ k at. inl at) (λ k inside. inr (opened, inside)) (λ k at inside. omega (arith, at, inside.0))
-    (once_named IsGate IsGate before mid (λ k at. at) gate) map
 
 -- what is asked for to finish a commit is what a commit may ask for
 pub in_finish : (homes : List ℕ) (k : ℕ) → length homes ≤ page_limit → IsFinished homes k → IsCommitted homes k

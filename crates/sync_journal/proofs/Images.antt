@@ -1,8 +1,8 @@
 -- What images stand for.
-use Rattle.sync_journal.proofs.{Maps.{same_map}, Names.{◌≡◌, ◌≢◌, ◌⊎◌, ◌<◌, ◌+◌, ℕ, zero, suc, Bool, true, false, List, [], length, get_or, Option, Some, None, if◌then◌else◌, ◌==◌, refl, sym, ap, subst, ◌∙◌, ⊎_elim, arith, add-one}}
-use Rattle.sync_journal.{proofs.Names.{cases_eq, eqb-true, eqb-false, eq-eqb, nat_tests, IfSome, Image}, specs.{Gate.{is_open}, Layout.{Sizes, sizes_2, gate_sector, first_body_sector, first_home_sector, body_sector, home_at, home_sector}}}
-use Rattle.sync_journal.specs.{Layout.{home_count, IsHomeSector, IsOutside}, Map.{place_among, home_rank, map_count, home_in, AreHomes, IsBadMap}, Standing.{place_or_home_in, place_or_home, map_in, map_of, standing_under, standing_in}}
-use Rattle.sync_journal.specs.{Standing.{standing_single, IsOpenIn, IsOpenFor, AreCopiedFrom}, Layouts.{IsKept, StandsForPages}, Commit.{one_journal}}
+use Rattle.sync_journal.proofs.{Maps.{same_map}, Names.{◌≡◌, ◌≢◌, ◌⊎◌, ◌<◌, ◌+◌, ℕ, zero, suc, Bool, true, false, List, length, get_or, Option, Some, None, if◌then◌else◌, ◌==◌, refl, sym, ap, subst, ◌∙◌, ⊎_elim, arith, add-one}}
+use Rattle.sync_journal.{proofs.Names.{cases_eq, eqb-true, eqb-false, eq-eqb, nat_tests, IfSome, Image}, specs.{Gate.{is_open}, Layout.{Sizes, sizes_2, gate_sector, body_sector, home_at, home_sector}}}
+use Rattle.sync_journal.specs.{Layout.{home_count, IsHomeSector, IsOutside}, Map.{place_among, home_rank, map_count, home_in, AreHomes, IsBadMap}, Standing.{place_or_home_in, place_or_home, map_of, standing_under}}
+use Rattle.sync_journal.specs.{Standing.{standing_single, IsOpenFor, AreCopied}, Layouts.{IsKept, StandsForPages}, Commit.{one_journal}}
 
 -- maps that name the same homes have them at the same places
 pub place_same : (f g : ℕ → ℕ) (h n : ℕ) → ((j : ℕ) → j < n → f j ≡ g j) → place_among f h n ≡ place_among g h n
@@ -50,36 +50,25 @@ unfolding place_among
 place_means names h zero = λ j below. absurd (omega arith)
 place_means names h (suc n) = stepped names h n (place_among names h n) (names n == h) refl (place_means names h n)
 
--- under a closed gate the homes stand
-pub closed_place : (sizes : Sizes) (image : Image) (h : ℕ) → is_open image ≡ false → standing_under sizes (is_open image) (map_in sizes image) h ≡ home_at sizes h
+-- where no page stands in the journal, the homes stand
+pub closed_place : (sizes : Sizes) (map : List ℕ) (h : ℕ) (gate : Bool) → gate ≡ false → standing_under sizes gate map h ≡ home_at sizes h
 unfolding standing_under
-closed_place sizes image h closed =
-    let map = map_in sizes image in
-    ap (λ gate. if gate then place_or_home_in sizes h (place_among (home_in map) h (map_count map)) else home_at sizes h) closed
-
-pub closed_stands : (sizes : Sizes) (image : Image) (h i : ℕ) → is_open image ≡ false → standing_in sizes image h i ≡ image (home_at sizes h + i)
-closed_stands sizes image h i closed = ap (λ first. image (first + i)) (closed_place sizes image h closed)
+closed_place sizes map h gate closed = ap (λ b. if b then place_or_home_in sizes h (place_among (home_in map) h (map_count map)) else home_at sizes h) closed
 
 pub standing_closed : (image : Image) (h i : ℕ) → is_open image ≡ false → standing_single image h i ≡ image (home_sector h + i)
-standing_closed image h i closed = closed_stands sizes_2 image h i closed
+standing_closed image h i closed = ap (λ first. image (first + i)) (closed_place sizes_2 (map_of image) h (is_open image) closed)
 
--- under a gate that is open for homes, what the body holds for them, and the other homes
-pub open_place : (sizes : Sizes) (homes : List ℕ) (image : Image) (h : ℕ) → IsOpenIn sizes homes image
-    → standing_under sizes (is_open image) (map_in sizes image) h ≡ place_or_home_in sizes h (home_rank homes h)
+-- where pages stand in it whose homes the map names, what the body holds for them, and the other homes
+pub open_place : (sizes : Sizes) (homes map : List ℕ) (h : ℕ) (gate : Bool) → gate ≡ true → map_count map ≡ length homes → ((j : ℕ) → j < length homes → home_in map j ≡ get_or homes j 0)
+    → standing_under sizes gate map h ≡ place_or_home_in sizes h (home_rank homes h)
 unfolding standing_under
-open_place sizes homes image h opens =
-    let map = map_in sizes image in
-    let names = home_in map in
-    ap (λ gate. if gate then place_or_home_in sizes h (place_among names h (map_count map)) else home_at sizes h) opens.gate
-    ∙ ap (λ n. place_or_home_in sizes h (place_among names h n)) opens.count
-    ∙ ap (λ place. place_or_home_in sizes h place) (place_same names (λ j. get_or homes j 0) h (length homes) opens.each)
-
-pub open_stands : (sizes : Sizes) (homes : List ℕ) (image : Image) (h i : ℕ) → IsOpenIn sizes homes image
-    → standing_in sizes image h i ≡ image (place_or_home_in sizes h (home_rank homes h) + i)
-open_stands sizes homes image h i opens = ap (λ first. image (first + i)) (open_place sizes homes image h opens)
+open_place sizes homes map h gate opened counts names =
+    ap (λ b. if b then place_or_home_in sizes h (place_among (home_in map) h (map_count map)) else home_at sizes h) opened
+    ∙ ap (λ n. place_or_home_in sizes h (place_among (home_in map) h n)) counts
+    ∙ ap (λ place. place_or_home_in sizes h place) (place_same (home_in map) (λ j. get_or homes j 0) h (length homes) names)
 
 pub standing_open : (homes : List ℕ) (image : Image) (h i : ℕ) → IsOpenFor homes image → standing_single image h i ≡ image (place_or_home h (home_rank homes h) + i)
-standing_open homes image h i opens = open_stands sizes_2 homes image h i opens
+standing_open homes image h i opens = ap (λ first. image (first + i)) (open_place sizes_2 homes (map_of image) h (is_open image) opens.gate opens.count opens.each)
 
 -- an image with the same map is open for the same homes
 pub open_as : (homes : List ℕ) (content image : Image) → IsOpenFor homes content → is_open image ≡ true → map_of image ≡ map_of content → IsOpenFor homes image
@@ -121,7 +110,7 @@ module _ (sectors : ℕ) (homes : List ℕ) (are : AreHomes (home_count sectors)
           ∙ sym (standing_open homes content h i opens)
 
   -- an image with the gate closed, and the content but for the homes, which hold what the body held
-  pub closed_kept : (image : Image) → is_open image ≡ false → AreCopiedFrom first_body_sector first_home_sector homes [] (length homes) content image
+  pub closed_kept : (image : Image) → is_open image ≡ false → AreCopied homes (length homes) content image
       → ((k : ℕ) → k ≢ gate_sector → IsHomeSector homes k ⊎ (image k ≡ content k))
       → IsKept one_journal sectors content (StandsForPages one_journal (standing_single content)) image
   closed_kept image gate copied same = record {
@@ -138,4 +127,4 @@ module _ (sectors : ℕ) (homes : List ℕ) (are : AreHomes (home_count sectors)
 
       here : (h i : ℕ) → i < 8 → (o : Option ℕ) → Means (λ j. get_or homes j 0) h (length homes) o → image (home_sector h + i) ≡ content (place_or_home h o + i)
       here h i below None none = ⊎_elim (λ at_home. absurd (not_at_home homes h i below none at_home)) (λ e. e) (same (home_sector h + i) (omega arith))
-      here h i below (Some j) found = ap (λ home. image (home_sector home + i)) (sym found.1) ∙ copied j i found.0 (no_place (λ k. get_or [] k 0) (get_or homes j 0)) below
+      here h i below (Some j) found = ap (λ home. image (home_sector home + i)) (sym found.1) ∙ copied j i found.0 below

@@ -14,12 +14,6 @@ pub mod Runs
 pub mod Layouts
 pub mod Sectors
 pub mod Since
-pub mod InTurn
-pub mod TurnAsking
-pub mod TurnSteps
-pub mod InKinds
-pub mod Resuming
-pub mod TurnRecoveries
-pub mod KindRecoveries
+pub mod Shared
 pub mod OneRecoveries
 pub mod Causes

@@ -1,7 +1,7 @@
 -- The journal map as bytes.
 use Rattle.sync_journal.proofs.Names.{◌≡◌, ◌⊎◌, ◌≤◌, ◌<◌, ◌+◌, ◌-◌, ◌*◌, ◌^◌, ℕ, zero, suc, List, [], ◌∷◌, ◌++◌, length, take, drop, get_or, replicate, refl, sym, ap, ◌∙◌, ⊎_elim, inl, inr, arith, drop-drop, lit<, get_or-take, get_or-drop}
 use Rattle.sync_journal.proofs.Names.{drop-replicate, flat_map, little_number, little_bytes, little_number-reads_back, put_mid, Image, joined, part_of, joined-same, joined_parts}
-use Rattle.sync_journal.specs.{Layout.{sizes_1, map_sector, first_body_sector}, Standing.{map_at, map_in, map_of}, Map.{map_count, home_in, map_bytes, HasNoHome, HasHomeTwice, IsBadMap}}
+use Rattle.sync_journal.specs.{Layout.{sizes_1, map_sector, first_body_sector}, Standing.{map_in, map_of}, Map.{map_count, home_in, map_bytes, HasNoHome, HasHomeTwice, IsBadMap}}
 
 -- the map of layout 1 is one sector
 pub one_sector : (image : Image) → map_in sizes_1 image ≡ image map_sector
@@ -13,8 +13,8 @@ pub same_map : (new old : Image) → ((k : ℕ) → map_sector ≤ k → k < fir
 same_map new old same = joined-same 8 (λ i. new (map_sector + i)) (λ i. old (map_sector + i)) (λ i below. same (map_sector + i) (omega arith) (omega (arith, below)))
 
 -- the map is a page
-pub map_page : (start : ℕ) (image : Image) (page : List ℕ) → length page ≡ 4096 → ((i : ℕ) → i < 8 → image (start + i) ≡ part_of page i) → map_at start image ≡ page
-map_page start image page long holds = joined-same 8 (λ i. image (start + i)) (part_of page) holds ∙ joined_parts page long
+pub map_page : (image : Image) (page : List ℕ) → length page ≡ 4096 → ((i : ℕ) → i < 8 → image (map_sector + i) ≡ part_of page i) → map_of image ≡ page
+map_page image page long holds = joined-same 8 (λ i. image (map_sector + i)) (part_of page) holds ∙ joined_parts page long
 
 -- a part written after the first four bytes
 pub overwritten : (a b c d k e : ℕ) (part old buf dst : List ℕ) → buf ≡ a ∷ b ∷ c ∷ d ∷ drop 4 old → dst ≡ part → 4 + k ≡ e

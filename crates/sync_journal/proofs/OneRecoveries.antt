@@ -1,5 +1,5 @@
 -- A recovery of one journal: a sync, a look at gate and map, and a replay.
-use Rattle.sync_journal.proofs.{Asking.{replay_asks}, Changes.{closed_not_bad}, InTurn.{none_are}, Names.{◌≡◌, ℕ, true, false, List, [], ⊎_elim, if◌then◌else◌, Result, Ok, Err, OnOk, sym, ap, subst, ◌∙◌, arith, on_ok_weaker, IsErr}}
+use Rattle.sync_journal.proofs.{Asking.{replay_asks}, Changes.{closed_not_bad}, Shared.{none_are}, Names.{◌≡◌, ℕ, true, false, List, [], ⊎_elim, if◌then◌else◌, Result, Ok, Err, OnOk, sym, ap, subst, ◌∙◌, arith, on_ok_weaker, IsErr}}
 use Rattle.sync_journal.proofs.{Names.{IsErrOf, Image, MayLeave, AsksOnly, Nothing, DiskFault, Ghosts}, Phases.{not_bad, staged_settled}, Layouts.{FixesOutside, stays, looking, looked_at, looked_then}, Replays.{if_ok}, Runs.{one_more}}
 use Rattle.sync_journal.{proofs.{Runs.{of_more, read_only, replayed}, Sectors.{same_image, so_before, so_since}}, specs.{Gate.{closed_gate, closed_sector, is_open}, Layout.{gate_sector, home_count, IsFinished, IsJournalSector}}}
 use Rattle.sync_journal.specs.{Layout.{IsRecovered, IsReplayed}, Map.{AreHomes}, Recovering.{RecoversOne}, Runs.{RunsOnDevice}, Standing.{map_of, standing_single, IsAskedIn, IsBadSingle, IsOpenFor}, Layouts.{IsSettled, KeepsHomes}}
@@ -45,7 +45,7 @@ module _ {D : Type 0} (g : Ghosts D) (old read : D) (only_now : g.keeps_model ol
 
   -- where the pages of an open journal are copied home then
   module _ (new : D) (homes : List ℕ) (are : AreHomes (home_count (g.sector_count old)) homes) (opened : g.keeps_model read → IsOpenFor homes (g.content old)) {r : Result (Unit {0}) DiskFault}
-      (e : MovesHome g one_journal [] (IsReplayed homes) (IsFinished homes) read new r) where
+      (e : MovesHome g (IsReplayed homes) (IsFinished homes) read new r) where
     replaying : g.keeps_model new → ((k : ℕ) → g.unsynced old k → ⊥) → KeepsHomes one_journal g old new
     replaying keeps still = looked_then one_journal ones_fix g old read only_now looks new e.kept keeps still (e.any_moment keeps)
 

@@ -1,7 +1,7 @@
 -- The moments of a replay.
 use Rattle.sync_journal.proofs.Names.{Result, Ok, Err, OnOk, ◌≡◌, ◌≢◌, ◌⊎◌, ◌+◌, ℕ, Bool, true, false, List, [], length, get_or, refl, ap, ◌∙◌, ⊎_elim, inl, inr, arith, Image, MayLeave, Touches, LeavesOnly, Ghosts, started, goes_on}
-use Rattle.sync_journal.{proofs.Images.{open_kept, closed_kept}, specs.{Layout.{gate_sector, first_body_sector, first_home_sector, home_sector, home_count, IsGate, IsHomeSector}, Gate.{is_open, is_open_sector}, Map.{AreHomes}}}
-use Rattle.sync_journal.specs.{Layouts.{IsKept, IsSettled, StandsForPages}, Commit.{one_journal}, Standing.{standing_single, IsOpenFor, AreCopiedFrom}}
+use Rattle.sync_journal.{proofs.Images.{open_kept, closed_kept}, specs.{Layout.{gate_sector, home_sector, home_count, IsGate, IsHomeSector}, Gate.{is_open, is_open_sector}, Map.{AreHomes}}}
+use Rattle.sync_journal.specs.{Layouts.{IsKept, IsSettled, StandsForPages}, Commit.{one_journal}, Standing.{standing_single, IsOpenFor, AreCopied}}
 
 -- a gate is open or closed
 pub open_or_closed : (image : Image) → (is_open image ≡ true) ⊎ (is_open image ≡ false)
@@ -37,7 +37,7 @@ module _ {D : Type 0} (g : Ghosts D) (homes : List ℕ) (old copied new : D)
       (started g old Stays only_now (λ image may. around_copies image (record { kept = λ k. ⊎_elim (λ u. inl (inl u)) (λ e. inr e) (may.kept k) })))
       copies around_copies
 
-  module _ (homes_hold : AreCopiedFrom first_body_sector first_home_sector homes [] (length homes) (g.content old) (g.content copied)) (copied_synced : (k : ℕ) → g.unsynced copied k → ⊥)
+  module _ (homes_hold : AreCopied homes (length homes) (g.content old) (g.content copied)) (copied_synced : (k : ℕ) → g.unsynced copied k → ⊥)
       (closes : Touches g IsGate copied new) where
     -- an image with every sector but the gate as the copies left it
     with_copies : (image : Image) → ((k : ℕ) → k ≢ gate_sector → image k ≡ g.content copied k) → Stays image
@@ -49,8 +49,8 @@ module _ {D : Type 0} (g : Ghosts D) (homes : List ℕ) (old copied new : D)
         as_before : (k : ℕ) → k ≢ gate_sector → IsHomeSector homes k ⊎ (image k ≡ g.content old k)
         as_before k other = ⊎_elim (λ at_home. inl at_home) (λ e. inr (same k other ∙ e)) (copies.content k)
 
-        hold : AreCopiedFrom first_body_sector first_home_sector homes [] (length homes) (g.content old) image
-        hold j i below_j left below_i = same (home_sector (get_or homes j 0) + i) (omega arith) ∙ homes_hold j i below_j left below_i
+        hold : AreCopied homes (length homes) (g.content old) image
+        hold j i below_j below_i = same (home_sector (get_or homes j 0) + i) (omega arith) ∙ homes_hold j i below_j below_i
 
     -- while the gate is written
     around_closing : (image : Image) → MayLeave (g.content copied) (λ k. g.unsynced copied k ⊎ IsGate k) image → Stays image

@@ -1,25 +1,20 @@
--- What a commit comes to: of one journal, of two in turn, and of either.
+-- What a commit comes to, of any layout, and of layout 2.
 use Rattle.std.specs.Prelude.{ℕ, List, [], length, ◌≡◌, Result, OnOk, IsErrOf}
 use Rattle.disk_model.specs.Stop.{Image, NamesOnce}
 use Rattle.disk_model.specs.Moments.{LeavesOnly, AsksOnly}
 use Rattle.disk_model.specs.declared.sector_disk.SectorDisk.{Ghosts}
 use Rattle.sync_journal.specs.Layout.{gate_sector, IsPublished, IsOpened, IsCommitted}
 use Rattle.sync_journal.specs.Gate.{closed_gate}
-use Rattle.sync_journal.specs.Map.{map_bytes, AreHomes}
+use Rattle.sync_journal.specs.Map.{map_bytes}
 use Rattle.sync_journal.specs.Standing.{map_of}
 use Rattle.sync_journal.specs.Commit.{changed, IsLive, one_journal}
 use Rattle.sync_journal.specs.Journal.{live_homes}
-use Rattle.sync_journal.specs.Blocks.{CommitsInBlocks, StoreCommitsInBlocks}
-use Rattle.sync_journal.specs.Kinds.{journal_kind, kind_home_count, store_live, IsStoreUsed, by_kind}
 use Rattle.sync_journal.specs.Steps.{TakesPages}
 use Rattle.sync_journal.specs.declared.faults.CommitFault.{CommitFault}
 use Rattle.sync_journal.specs.declared.faults.CommitFault.TheVariants.{Source}
 use Rattle.sync_journal.specs.declared.source.PageSource as Pages
 use Rattle.sync_journal.specs.declared.journal.Journal.{Journal}
-use Rattle.sync_journal.specs.declared.turns.TurnJournal.{TurnJournal}
-use Rattle.sync_journal.specs.Turns.{in_turn}
 use Rattle.sync_journal.specs.Layouts.{Layout, HomesStandAs, IsKept, IsSettled, StandsForEitherPages}
-use Rattle.sync_journal.specs.declared.store_journal.StoreJournal.{StoreJournal}
 
 -- The image stands for the home pages of the old one, or for those with these put for these homes.
 abbrev pub HomesStandOr : {J : Type 0} → Layout J → ℕ → List ℕ → (ℕ → List ℕ) → Image → Image → Type 0
@@ -57,7 +52,7 @@ module _ {D S : Type 0} (g : Ghosts D) (s : Pages.Ghosts S) where
     pub map : g.keeps_model new → OnOk result (map_of (g.content new) ≡ map_bytes homes)
     pub source_gate : g.keeps_model new → IsErrOf result Source → g.content new gate_sector ≡ g.content old gate_sector
 
-  -- One journal commits:
+  -- The journal of layout 2 commits:
   pub record CommitsOne (was now : Journal) (homes : List ℕ) (old new : D) (from left : S) (result : Result (Unit {0}) CommitFault) : Type 0 where
     pub puts : CommitsOver one_journal (live_homes was) homes [] homes old new from left result
     pub open puts use *
@@ -70,31 +65,3 @@ module _ {D S : Type 0} (g : Ghosts D) (s : Pages.Ghosts S) where
     -- where the source failed the pages of the commit before are home, the gate is closed, and no journal is live.
     pub not_live : IsErrOf result Source → live_homes now ≡ []
     pub source_gate : g.keeps_model new → IsErrOf result Source → g.content new gate_sector ≡ closed_gate (g.content old)
-
-  -- Two journals commit in turn:
-  pub record CommitsInTurn (was now : TurnJournal) (homes : List ℕ) (old new : D) (from left : S) (result : Result (Unit {0}) CommitFault) : Type 0 where
-    pub puts : CommitsOver in_turn (was.second, live_homes was.live) (now.second, homes) (was.second, live_homes was.live) homes old new from left result
-    pub open puts use *
-    -- the other journal is live with these homes, all of it synced;
-    pub live : OnOk result (live_homes now.live ≡ homes)
-    pub synced : g.keeps_model new → OnOk result ((k : ℕ) → g.unsynced new k → ⊥)
-    -- a stop may even spoil whole blocks of 4,096 bytes;
-    pub blocks : g.keeps_model new → s.keeps_model left
-        → CommitsInBlocks g was.second (live_homes was.live) (HomesStandOr in_turn (g.sector_count old) homes (s.pages from) (g.content old)) old new
-    -- where the source failed the pages of the commit before stand where they did.
-    pub as_it_was : IsErrOf result Source → now ≡ was
-
-  -- A store's journal commits, of either layout:
-  pub record CommitsEither (was now : StoreJournal) (homes : List ℕ) (old new : D) (from left : S) (result : Result (Unit {0}) CommitFault) : Type 0 where
-    pub puts : CommitsOver by_kind was now now homes old new from left result
-    pub open puts use *
-    -- it is live with these homes, all of it synced, and of the layout that it was;
-    pub live : OnOk result (store_live now ≡ homes)
-    pub synced : g.keeps_model new → OnOk result ((k : ℕ) → g.unsynced new k → ⊥)
-    pub kind : journal_kind now ≡ journal_kind was
-    -- of two in turn a stop may even spoil whole blocks of 4,096 bytes;
-    pub blocks : g.keeps_model new → s.keeps_model left → StoreCommitsInBlocks g was (HomesStandOr by_kind (g.sector_count old) homes (s.pages from) (g.content old)) old new
-    -- the gate, the journal that is filled and what is copied home are asked for alone;
-    pub asks_device : AsksOnly g (IsStoreUsed was) old new
-    -- where the source failed the pages that stay live have homes on the device.
-    pub source_live : IsErrOf result Source → AreHomes (kind_home_count (journal_kind was) (g.sector_count old)) (store_live now)

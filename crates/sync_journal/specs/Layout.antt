@@ -1,13 +1,13 @@
--- Where the parts of a store lie, in sectors. The format is our own, in two layouts: stores are made and opened in layout 2, and
--- an upgrade reads those of layout 1.
+-- Where the parts of a store lie, in sectors. The format is our own: stores are made and opened in layout 2, and an upgrade reads those of
+-- layouts 1, 2 and 3.
 -- What it has to keep is failure-atomic msync (Park, Kelly and Shen, "Failure-Atomic msync()", EuroSys 2013).
-use Rattle.std.specs.Prelude.{ℕ, ◌+◌, ◌-◌, ◌*◌, ◌/◌, ◌^◌, ◌<◌, ◌≤◌, ◌⊎◌, ◌≡◌, List, length, slice_index, min}
-use Rattle.sync_journal.specs.declared.store_journal.Journals.{Journals}
-use Rattle.sync_journal.specs.declared.store_journal.Journals.TheVariants.{Single, Paired}
+use Rattle.std.specs.Prelude.{ℕ, ◌+◌, ◌-◌, ◌*◌, ◌/◌, ◌^◌, ◌<◌, ◌≤◌, ◌⊎◌, ◌≡◌, Bool, true, false, List, length, slice_index, min}
 
 -- What layouts have in different sizes and places.
 pub record Sizes : Type 0 where
-  -- how many sectors the journal map has
+  -- the first sector of the journal map
+  pub map : ℕ
+  -- how many sectors it has
   pub map_sectors : ℕ
   -- the most pages of one commit: what the map has room for
   pub most : ℕ
@@ -18,7 +18,7 @@ pub record Sizes : Type 0 where
 
 -- those of layout 1
 abbrev pub sizes_1 : Sizes
-sizes_1 = record { map_sectors = 1; most = 127; body = 4; homes = 1020 }
+sizes_1 = record { map = 3; map_sectors = 1; most = 127; body = 4; homes = 1020 }
 
 -- the most pages of one commit
 abbrev pub page_limit : ℕ
@@ -50,12 +50,12 @@ first_home_sector = 8195
 
 -- those of layout 2
 abbrev pub sizes_2 : Sizes
-sizes_2 = record { map_sectors = map_sectors; most = page_limit; body = first_body_sector; homes = first_home_sector }
+sizes_2 = record { map = map_sector; map_sectors = map_sectors; most = page_limit; body = first_body_sector; homes = first_home_sector }
 
--- those of the layout from which an upgrade makes a store: of layout 3, with two journals in turn, from layout 2, and of that from layout 1
-abbrev pub sizes_before : Journals → Sizes
-sizes_before Single = sizes_1
-sizes_before Paired = sizes_2
+-- those of the first and of the second journal of layout 3, which has two
+abbrev pub sizes_3 : Bool → Sizes
+sizes_3 false = record { map = 24; map_sectors = 8; most = 1023; body = 32; homes = 16408 }
+sizes_3 true = record { map = 8216; map_sectors = 8; most = 1023; body = 8224; homes = 16408 }
 
 -- the first sector of page j of the journal body
 abbrev pub body_at : Sizes → ℕ → ℕ
@@ -82,16 +82,9 @@ home_count sectors = min ((sectors - first_home_sector) / 8) home_limit
 abbrev pub IsPageSector : ℕ → ℕ → Type 0
 IsPageSector first k = (first ≤ k) × (k < first + 8)
 
--- how many home pages a device of so many sectors has if the first begins at this one
-abbrev pub homes_from : ℕ → ℕ → ℕ
-homes_from first sectors = min ((sectors - first) / 8) home_limit
-
 -- a sector of one of these homes
-abbrev pub IsHomeFrom : ℕ → List ℕ → ℕ → Type 0
-IsHomeFrom first homes k = (j : ℕ) × (j < length homes) × IsPageSector (first + 8 * slice_index homes j) k
-
 abbrev pub IsHomeSector : List ℕ → ℕ → Type 0
-IsHomeSector homes k = IsHomeFrom first_home_sector homes k
+IsHomeSector homes k = (j : ℕ) × (j < length homes) × IsPageSector (home_sector (slice_index homes j)) k
 
 -- the gate
 abbrev pub IsGate : ℕ → Type 0
@@ -99,10 +92,7 @@ IsGate k = k ≡ gate_sector
 
 -- a sector of the map
 abbrev pub IsMapIn : Sizes → ℕ → Type 0
-IsMapIn sizes k = (map_sector ≤ k) × (k < map_sector + sizes.map_sectors)
-
-abbrev pub IsGateOrMapIn : Sizes → ℕ → Type 0
-IsGateOrMapIn sizes k = IsGate k ⊎ IsMapIn sizes k
+IsMapIn sizes k = (sizes.map ≤ k) × (k < sizes.map + sizes.map_sectors)
 
 -- the gate and the sectors of these homes
 abbrev pub IsReplayed : List ℕ → ℕ → Type 0
@@ -111,18 +101,6 @@ IsReplayed homes k = IsGate k ⊎ IsHomeSector homes k
 -- a sector of the first n pages of the body
 abbrev pub IsBodySector : ℕ → ℕ → Type 0
 IsBodySector n k = (first_body_sector ≤ k) × (k < body_sector n)
-
--- a sector of the journal whose map begins at this one
-abbrev pub IsJournalAt : ℕ → ℕ → Type 0
-IsJournalAt start k = (start ≤ k) × (k < start + 8192)
-
--- a sector of the first n pages of its body
-abbrev pub IsFilledAt : ℕ → ℕ → ℕ → Type 0
-IsFilledAt start n k = (start + 8 ≤ k) × (k < start + 8 + 8 * n)
-
--- a sector of its map, or of those pages
-abbrev pub IsStagedAt : ℕ → ℕ → ℕ → Type 0
-IsStagedAt start n k = (start ≤ k) × (k < start + 8 + 8 * n)
 
 -- a sector of the map, or of the first n pages of the body
 abbrev pub IsStaged : ℕ → ℕ → Type 0

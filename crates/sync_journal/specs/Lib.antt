@@ -5,6 +5,7 @@ pub mod Map
 pub mod Standing
 pub mod Commit
 pub mod Journal
+pub mod OldLayouts
 pub mod OldJournal
 pub mod OldMaps
 pub mod Source
@@ -12,9 +13,6 @@ pub mod Runs
 pub mod Steps
 pub mod Recovery
 pub mod Stops
-pub mod Turns
 pub mod Blocks
-pub mod Kinds
-pub mod Resuming
 pub mod Committing
 pub mod Recovering

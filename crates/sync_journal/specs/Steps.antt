@@ -1,5 +1,5 @@
--- What the steps of a commit and of a recovery come to on a device, in whichever layout.
-use Rattle.std.specs.Prelude.{ℕ, List, ◌+◌, ◌*◌, ◌^◌, ◌<◌, ◌≤◌, ◌≡◌, Result, OnOk, IsErr, IsErrOf}
+-- What the steps of a commit and of a recovery come to on a device.
+use Rattle.std.specs.Prelude.{ℕ, List, [], length, ◌+◌, ◌<◌, ◌≤◌, ◌≡◌, Result, OnOk, IsErr, IsErrOf}
 use Rattle.disk_model.specs.Sectors.{joined}
 use Rattle.disk_model.specs.Stop.{HasCause, Names, NamesOnce}
 use Rattle.disk_model.specs.Moments.{Nothing}
@@ -9,11 +9,13 @@ use Rattle.sync_journal.specs.declared.faults.CommitFault.{CommitFault}
 use Rattle.sync_journal.specs.declared.faults.RecoverFault.{RecoverFault}
 use Rattle.sync_journal.specs.declared.faults.RecoverFault.TheVariants.{Device, BadJournal}
 use Rattle.sync_journal.specs.declared.source.PageSource as Source
-use Rattle.sync_journal.specs.Layout.{page_limit, homes_from, IsPageSector}
-use Rattle.sync_journal.specs.Map.{AreHomes}
+use Rattle.sync_journal.specs.Layout.{page_limit, first_home_sector, IsPageSector, IsJournalSector, IsStaged}
+use Rattle.sync_journal.specs.Map.{map_bytes, home_rank}
+use Rattle.sync_journal.specs.Standing.{place_or_home, map_of, standing_single, HoldsPages}
+use Rattle.sync_journal.specs.Commit.{IsAtRest, one_journal}
 use Rattle.sync_journal.specs.Runs.{RunsOnDevice}
 use Rattle.sync_journal.specs.Source.{Asks, HasCauses}
-use Rattle.sync_journal.specs.Layouts.{Layout, IsSettled, KeepsHomes}
+use Rattle.sync_journal.specs.Layouts.{IsSettled, KeepsHomes}
 
 module _ {D : Type 0} (g : Ghosts D) where
   -- A device is read:
@@ -44,9 +46,9 @@ module _ {D : Type 0} (g : Ghosts D) where
     pub open reads use *
     pub asks : Names (IsPageSector first) (g.asked old) (g.asked new)
 
-  -- The page that stands for a home, under a journal in this state:
-  abbrev pub SeesHome : {J : Type 0} → Layout J → J → ℕ → D → D → List ℕ → Result (Unit {0}) DiskFault → Type 0
-  SeesHome layout state home old new to result = SeesPage (joined (layout.standing (g.content old) home) 8) (layout.stands_at state home) (layout.IsRest g state new) old new to result
+  -- The page that stands for a home, under a journal with these live homes:
+  abbrev pub SeesHome : List ℕ → ℕ → D → D → List ℕ → Result (Unit {0}) DiskFault → Type 0
+  SeesHome live home old new to result = SeesPage (joined (standing_single (g.content old) home) 8) (place_or_home home (home_rank live home)) (IsAtRest g live new) old new to result
 
   -- Sectors are written:
   pub record WritesInto {T E : Type 0} (Written Asked : ℕ → Type 0) (After : Type 0) (old new : D) (result : Result T E) : Type 0 where
@@ -68,20 +70,13 @@ module _ {D : Type 0} (g : Ghosts D) where
     -- nothing is unsynced then.
     pub synced : g.keeps_model new → OnOk result ((k : ℕ) → g.unsynced new k → ⊥)
 
-  -- The pages of a body, which begins at one sector, may be copied to homes that begin at another: they lie after it, and the device has
-  -- each of them.
-  pub record MayCopyHome (body first : ℕ) (homes : List ℕ) (disk : D) : Type 0 where
-    pub after : body + 8 * page_limit ≤ first
-    pub low : first < 2 ^ 32
-    pub are : AreHomes (homes_from first (g.sector_count disk)) homes
-
-  -- What stands in a journal alone is copied home, and the journal is in this state then:
-  pub record MovesHome {J T E : Type 0} (layout : Layout J) (after : J) (Written Asked : ℕ → Type 0) (old new : D) (result : Result T E) : Type 0 where
-    -- the device is at rest under it, with homes in which all of it stands, or the device failed;
-    pub writes : WritesInto Written Asked (IsSettled layout g (g.sector_count old) (g.content old) after new (layout.standing (g.content old))) old new result
+  -- What stands in the journal alone is copied home:
+  pub record MovesHome {T E : Type 0} (Written Asked : ℕ → Type 0) (old new : D) (result : Result T E) : Type 0 where
+    -- the device is at rest with no live page and homes in which all of it stands, or the device failed;
+    pub writes : WritesInto Written Asked (IsSettled one_journal g (g.sector_count old) (g.content old) [] new (standing_single (g.content old))) old new result
     pub open writes use *
     -- and every image of a stop at any moment of the call stands for the same pages.
-    pub any_moment : g.keeps_model new → KeepsHomes layout g old new
+    pub any_moment : g.keeps_model new → KeepsHomes one_journal g old new
 
   -- A fault of a recovery has its cause:
   pub record BlamesJournal {T : Type 0} (old new : D) (result : Result T RecoverFault) : Type 0 where
@@ -92,8 +87,8 @@ module _ {D : Type 0} (g : Ghosts D) where
     pub still : IsErrOf result BadJournal → g.failures new ≡ g.failures old
 
   -- The device has a store's sectors, and none of it is unsynced.
-  pub record IsSyncedStore (homes : ℕ) (disk : D) : Type 0 where
-    pub room : homes ≤ g.sector_count disk
+  pub record IsSyncedStore (disk : D) : Type 0 where
+    pub room : first_home_sector ≤ g.sector_count disk
     pub synced : g.keeps_model disk → (k : ℕ) → g.unsynced disk k → ⊥
 
   -- A journal is looked at:
@@ -116,10 +111,9 @@ module _ {D S : Type 0} (g : Ghosts D) (s : Source.Ghosts S) where
     -- and each fault has its cause.
     pub causes : HasCauses (g.failures old) (g.failures new) (s.failures from) (s.failures left) result
 
-  -- The journal that begins at a sector may be filled: the device has it, it has room for so many pages, and a source gives these.
-  pub record MayFill (start count : ℕ) (disk : D) (source : S) : Type 0 where
-    pub room : start + 8192 ≤ g.sector_count disk
-    pub low : start < 2 ^ 32
+  -- The journal may be filled: the device has it, it has room for so many pages, and a source gives these.
+  pub record MayFill (count : ℕ) (disk : D) (source : S) : Type 0 where
+    pub room : first_home_sector ≤ g.sector_count disk
     pub few : count ≤ page_limit
     pub gives : (i : ℕ) → i < count → s.gives source i
 
@@ -133,16 +127,16 @@ module _ {D S : Type 0} (g : Ghosts D) (s : Source.Ghosts S) where
     pub takes : TakesPages Written old new from left result
     pub open takes use *
 
-  -- The pages that a source gives are written to a journal, with the homes that they are of:
-  pub record FillsJournal (Written Asked : ℕ → Type 0) (After Mapped : Type 0) (old new : D) (from left : S) (result : Result (Unit {0}) CommitFault) : Type 0 where
-    pub fills : FillsBody Written Asked After old new from left result
+  -- The pages that a source gives are written to the journal, with the homes that they are of:
+  pub record FillsJournal (homes : List ℕ) (old new : D) (from left : S) (result : Result (Unit {0}) CommitFault) : Type 0 where
+    pub fills : FillsBody IsJournalSector (IsStaged (length homes)) (HoldsPages (length homes) (s.pages from) (g.content new)) old new from left result
     pub open fills use *
     -- its map names these.
-    pub map : g.keeps_model new → OnOk result Mapped
+    pub map : g.keeps_model new → OnOk result (map_of (g.content new) ≡ map_bytes homes)
 
   -- and all of that is synced:
-  pub record SyncsJournal (Written Asked : ℕ → Type 0) (After Mapped : Type 0) (old new : D) (from left : S) (result : Result (Unit {0}) CommitFault) : Type 0 where
-    pub fills : FillsJournal Written Asked After Mapped old new from left result
+  pub record SyncsJournal (homes : List ℕ) (old new : D) (from left : S) (result : Result (Unit {0}) CommitFault) : Type 0 where
+    pub fills : FillsJournal homes old new from left result
     pub open fills use *
     -- nothing is unsynced then.
     pub synced : g.keeps_model new → OnOk result ((k : ℕ) → g.unsynced new k → ⊥)

@@ -1,10 +1,10 @@
 //! Pages made durable all at once.
-ghost use Rattle.std.specs.Prelude.{◌≡◌, ◌<◌, ◌≤◌, ◌⊎◌, ◌+◌, ℕ, [], length, IfSome, OnOk};
+ghost use Rattle.std.specs.Prelude.{◌≡◌, ◌<◌, ◌≤◌, ◌⊎◌, ◌+◌, [], length, IfSome, OnOk};
 ghost use Rattle.sync_journal.specs.Layout.{gate_sector, home_count, home_sector, IsMovedHome, IsReplayed, first_home_sector, page_limit};
 ghost use Rattle.sync_journal.specs.Gate.{closed_gate};
 ghost use Rattle.sync_journal.specs.Map.{AreHomes, home_rank};
 ghost use Rattle.sync_journal.specs.Standing.{place_or_home};
-ghost use Rattle.sync_journal.specs.Commit.{IsAtRest, one_journal};
+ghost use Rattle.sync_journal.specs.Commit.{IsAtRest};
 ghost use Rattle.sync_journal.specs.Journal.{live_homes};
 ghost use Rattle.sync_journal.specs.Committing.{CommitsOne};
 ghost use Rattle.sync_journal.specs.Source.{GivesFor};
@@ -71,7 +71,7 @@ impl Journal {
     ) -> Result<(), DiskFault>
         requires home { home < home_count (D.sector_count disk.old) }
         requires rest { D.keeps_model disk.old → IsAtRest D.SectorDisk (live_homes self.now) disk.old }
-        ensures { SeesHome D.SectorDisk one_journal (live_homes self.now) home disk.old disk.new to.new result }
+        ensures { SeesHome D.SectorDisk (live_homes self.now) home disk.old disk.new to.new result }
     {
         read_page(disk, self.stands_at(home), to)
     }
@@ -92,7 +92,7 @@ impl Journal {
         requires room { first_home_sector ≤ D.sector_count disk.old }
         requires live { AreHomes (home_count (D.sector_count disk.old)) (live_homes self.old) }
         requires rest { D.keeps_model disk.old → IsAtRest D.SectorDisk (live_homes self.old) disk.old }
-        ensures home { MovesHome D.SectorDisk one_journal [] (IsReplayed (live_homes self.old)) (IsMovedHome (live_homes self.old)) disk.old disk.new result }
+        ensures home { MovesHome D.SectorDisk (IsReplayed (live_homes self.old)) (IsMovedHome (live_homes self.old)) disk.old disk.new result }
         ensures gate { D.keeps_model disk.new → OnOk result (D.content disk.new gate_sector ≡ closed_gate (D.content disk.old)) }
         ensures not_live { OnOk result (live_homes self.new ≡ []) }
     {

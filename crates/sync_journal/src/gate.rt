@@ -1,5 +1,5 @@
 //! The gate of the journal: one sector, written and synced by itself.
-ghost use Rattle.std.specs.Prelude.{◌≡◌, ◌<◌, ◌≤◌, true};
+ghost use Rattle.std.specs.Prelude.{◌≡◌, ◌≤◌, true};
 ghost use Rattle.sync_journal.specs.Layout.{gate_sector, IsGate, first_home_sector};
 ghost use Rattle.sync_journal.specs.Gate.{open_sector, closed_sector, is_open_sector, is_open};
 ghost use Rattle.sync_journal.specs.Steps.{SyncsInto};
@@ -36,7 +36,7 @@ pub(crate) fn open_gate<D: SectorDisk>(disk: &mut D) -> Result<(), DiskFault>
     requires { first_home_sector ≤ D.sector_count disk.old }
     ensures { SyncsInto D.SectorDisk IsGate IsGate (is_open (D.content disk.new) ≡ true) disk.old disk.new result }
 {
-    write_gate(disk, GATE, open_bytes())
+    write_gate(disk, open_bytes())
 }
 
 /// Closes the gate, by a sector of zeros, and syncs.
@@ -44,18 +44,14 @@ pub(crate) fn close_gate<D: SectorDisk>(disk: &mut D) -> Result<(), DiskFault>
     requires { first_home_sector ≤ D.sector_count disk.old }
     ensures { SyncsInto D.SectorDisk IsGate IsGate (D.content disk.new gate_sector ≡ closed_sector) disk.old disk.new result }
 {
-    write_gate(disk, GATE, &[0; 512])
+    write_gate(disk, &[0; 512])
 }
 
-/// Writes a gate at its sector, and syncs.
-pub(crate) fn write_gate<D: SectorDisk>(
-    disk: &mut D,
-    at: u64,
-    gate: &[u8; 512],
-) -> Result<(), DiskFault>
-    requires { at < D.sector_count disk.old }
-    ensures { SyncsInto D.SectorDisk (λ k. k ≡ at) (λ k. k ≡ at) (D.content disk.new at ≡ gate.now) disk.old disk.new result }
+// Writes the gate, and syncs.
+fn write_gate<D: SectorDisk>(disk: &mut D, gate: &[u8; 512]) -> Result<(), DiskFault>
+    requires { first_home_sector ≤ D.sector_count disk.old }
+    ensures { SyncsInto D.SectorDisk IsGate IsGate (D.content disk.new gate_sector ≡ gate.now) disk.old disk.new result }
 {
-    disk.write(at, gate)?;
+    disk.write(GATE, gate)?;
     disk.sync()
 }

@@ -1,22 +1,10 @@
 //! The journal map: which homes the pages of the body belong to.
-ghost use Rattle.std.specs.Prelude.{◌≡◌, ◌<◌, ◌≤◌, ◌⊎◌, ◌+◌, ◌*◌, ◌++◌, ℕ, length, take, drop, slice_index, MatchOption, replicate};
+ghost use Rattle.std.specs.Prelude.{◌≡◌, ◌<◌, ◌≤◌, ◌⊎◌, ◌+◌, ◌*◌, ◌++◌, ℕ, length, take, slice_index, MatchOption, replicate};
 ghost use Rattle.std.specs.Bool.{OnTrue, OnFalse};
-ghost use Rattle.std.specs.List.{flat_map};
 ghost use Rattle.sync_journal.specs.Layout.{page_limit};
-ghost use Rattle.byteorder.specs.Endian.{little_bytes};
 ghost use Rattle.sync_journal.specs.Map.{AreFewHomes, HasNoHome, HasHomeTwice, IsBadMap, map_bytes, map_count, home_in};
 
 use byteorder::{ByteOrder, LittleEndian};
-
-/// The map of these homes; the rest of it is zero.
-pub(crate) fn map_page(homes: &[u32]) -> [u8; 4096]
-    requires { length homes.now ≤ page_limit }
-    ensures { result ≡ map_bytes homes.now }
-{
-    let mut map = [0; 4096];
-    write_map(&mut map, homes);
-    map
-}
 
 /// Writes the map of these homes over zeros.
 pub(crate) fn write_map(map: &mut [u8; 4096], homes: &[u32])
@@ -56,7 +44,7 @@ fn read_numbers(map: &[u8], homes: &mut [u32])
 }
 
 // Whether each home is under the limit, and none stands twice.
-pub(crate) fn are_homes(homes: &[u32], limit: u64) -> bool
+fn are_homes(homes: &[u32], limit: u64) -> bool
     ensures good { OnTrue result ((most : ℕ) → length homes.now ≤ most → AreFewHomes most limit homes.now) }
     ensures bad { OnFalse result (HasNoHome limit (λ j. slice_index homes.now j) (length homes.now)
         ⊎ HasHomeTwice (λ j. slice_index homes.now j) (length homes.now)) }

@@ -40,9 +40,13 @@ pub fn stops_in_a_row<D: SectorDisk>(_disk: &D)
     ensures { (sectors n : ℕ) (first last : Image) → LeftByRecoveries D.SectorDisk sectors n first last → HomesStandAs one_journal sectors first last }
 {}
 
-// Recovers a device that has nothing unsynced.
-pub(crate) fn recover_synced<D: SectorDisk>(disk: &mut D) -> Result<(), RecoverFault>
-    requires { IsSyncedStore D.SectorDisk first_home_sector disk.old }
+/// The same on a device that has nothing unsynced: nothing is synced first. That it has nothing is for the caller to know.
+///
+/// # Errors
+///
+/// Those of `recover`.
+pub fn recover_synced<D: SectorDisk>(disk: &mut D) -> Result<(), RecoverFault>
+    requires { IsSyncedStore D.SectorDisk disk.old }
     ensures { RecoversOne D.SectorDisk disk.old disk.new result }
 {
     let mut homes = [0; PAGE_LIMIT];

@@ -1,6 +1,7 @@
 mod Names
 mod Changed
 mod Runs
+mod Freed
 mod Growth
 mod Lent
 mod Lost

@@ -39,9 +39,6 @@ more_kept old mid new first second = record {
 
 -- a sector that a call names more is lost then
 module _ (lost lost' : ℕ → ℕ) (W : ℕ → Type 0) (names : Names W lost lost') where
-  pub lost_by : (k : ℕ) → 0 < lost' k → (0 < lost k) ⊎ W k
-  lost_by k more = ⊎_elim (λ here. inr here) (λ same. inl (omega (arith, same, more))) (names.others k)
-
   pub lost_here : (k : ℕ) → W k → 0 < lost' k
   lost_here k here = let more = names.named k here in omega (arith, more)
 

@@ -1,6 +1,6 @@
 -- From what the store says of a plan as a device to what stops of the calls leave.
 use Rattle.sync_plans.proofs.{Growth.{alike_leaves, alike_image}, Names.{ℕ, zero, suc, ◌+◌, if◌then◌else◌, ◌<◌, ◌≤◌, ◌≡◌, ◌≢◌, ◌⊎◌, Bool, true, false, ◌||◌, IsTrue, List, [], ◌∷◌, Some, slice_get, length, inl, inr, ⊎_elim, refl, sym, ap, subst, ◌∙◌}}
-use Rattle.sync_plans.proofs.Names.{arith, cases_Bool, cases_eq, false≢true, get_or, get_or_past, drop, fun_ext, Image, MayLeave, Nothing, mark, pool_mark, turn_kind, kind_of, Journals, Single, Paired, version_at, mark_of, Unmarked, ImageSays, is_pool, in_kind, pool_marked, IsBadLayout, IsBadJournal}
+use Rattle.sync_plans.proofs.Names.{arith, cases_Bool, cases_eq, false≢true, get_or, get_or_past, drop, fun_ext, Image, MayLeave, Nothing, mark, pool_mark, Unmarked, ImageSays, is_pool, in_kind, pool_marked, IsBadLayout, IsBadJournal}
 use Rattle.sync_plans.specs.{Device.{label}, PlanDisk.{pages_of, content_of, unsynced_in, IsLost, plan_moment, left_in}, Plans.{row, written_bytes, is_written, writes_to, is_sync_call, is_left_unsynced, IsLeftUnsynced, image_after, StopLeaves, After, Within}}
 use Rattle.sync_plans.specs.{Requests.{HasLayout, IsStore}, declared.{call.Call.{Call}, plan_disk.PlanDisk.{PlanDisk}}}
 
@@ -65,10 +65,9 @@ is_none : List ℕ → Bool
 is_none [] = true
 is_none (b ∷ bytes) = false
 
-unmarked : (kind : Journals) → [] ≢ mark_of (version_at kind)
-unfolding mark turn_kind is_none
-unmarked Single e = false≢true (sym (ap is_none e))
-unmarked Paired e = false≢true (sym (ap is_none e))
+no_journal : [] ≢ mark
+unfolding mark is_none
+no_journal e = false≢true (sym (ap is_none e))
 
 no_pool : [] ≢ pool_mark
 unfolding pool_mark is_none
@@ -79,7 +78,7 @@ no_layout sectors image good blank = from (is_pool image) refl
   where
     from : (pool : Bool) → is_pool image ≡ pool → ⊥
     from true is = no_pool (sym blank ∙ pool_marked image is)
-    from false other = good (in_kind (λ (said : ImageSays). said.HasBadLayout) sectors image other (Unmarked (λ e. unmarked (kind_of image) (sym blank ∙ e))))
+    from false other = good (in_kind (λ (said : ImageSays). said.HasBadLayout) sectors image other (Unmarked (λ e. no_journal (sym blank ∙ e))))
 
 -- nor one that a caller lends
 no_row : (number : ℕ) (first : Image) (image : List (List ℕ)) → label number first ≡ row image → ⊥

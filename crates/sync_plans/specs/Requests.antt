@@ -1,14 +1,15 @@
 -- What an image is to those who ask for a page or a commit.
-use Rattle.std.specs.Prelude.{ℕ, ◌<◌, ◌≡◌, ◌⊎◌, false, List, Option}
+use Rattle.std.specs.Prelude.{ℕ, ◌<◌, ◌≡◌, ◌⊎◌, true, false, not, List, Option}
 use Rattle.vm_types.specs.declared.file.FileInfo.{FileInfo}
 use Rattle.vm_types.specs.declared.file.FilePage.{FilePage}
 use Rattle.disk_model.specs.declared.sector_disk.SectorDisk.{Ghosts}
 use Rattle.disk_model.specs.Moments.{LeavesOnly, LeavesNow, Nothing, Touches}
 use Rattle.disk_model.specs.Stop.{Image}
 use Rattle.file_store.specs.Commit.{Changes}
+use Rattle.pool_journal.specs.Pools.{pool_named}
 use Rattle.pool_store.specs.Resume.{HasPoolHead}
 use Rattle.stores.specs.Commit.{ArePages}
-use Rattle.stores.specs.Images.{is_pool, file_info, free_pages, IsBadLayout, IsBadJournal, IsClosed, IsOutside, StandsFor, StandsForEither}
+use Rattle.stores.specs.Images.{is_pool, file_info, capacity_pages, IsBadLayout, IsBadJournal, IsClosed, IsOutside, StandsFor, StandsForEither}
 use Rattle.batches.specs.Pages.{HasReadOnly}
 use Rattle.sync_plans.specs.declared.requests.Refusal.{Refusal}
 use Rattle.sync_plans.specs.declared.requests.Refusal.TheVariants.{Device, BadLayout, BadJournal, BadPages, ReadOnly, Memory}
@@ -27,18 +28,18 @@ pub record HasBadJournal (sectors : ℕ) (image : Image) : Type 0 where
   pub layout : IsBadLayout sectors image → ⊥
   pub journal : IsBadJournal sectors image
 
--- what lies outside of gate, journals, pool and homes is as it was
+-- what lies outside of gate, journal, pool and homes is as it was
 abbrev pub KeepsOutside : ℕ → Image → Image → Type 0
 KeepsOutside sectors old new = (k : ℕ) → IsOutside sectors old k → new k ≡ old k
 
 -- a commit may bring these pages
 pub record AreWritable (sectors : ℕ) (image : Image) (list : List FilePage) : Type 0 where
-  pub pages : ArePages (file_info sectors image) 1 (free_pages sectors image) list
+  pub pages : ArePages (file_info sectors image) (capacity_pages sectors image) list
   pub written : HasReadOnly (file_info sectors image) list → ⊥
 
 -- it may not, as one of them is a page of a file that may only be read
 pub record AreReadOnly (sectors : ℕ) (image : Image) (list : List FilePage) : Type 0 where
-  pub pages : ArePages (file_info sectors image) 1 (free_pages sectors image) list
+  pub pages : ArePages (file_info sectors image) (capacity_pages sectors image) list
   pub read_only : HasReadOnly (file_info sectors image) list
 
 -- What is asked of an image is refused:
@@ -82,10 +83,21 @@ module _ {D : Type 0} (g : Ghosts D) where
   pub record OpensStore (old new : D) : Type 0 where
     -- its image was one of a store,
     pub store : IsStore (g.sector_count old) (g.content old)
-    -- where it has no pool nothing stands in a journal alone any more, and nothing is unsynced,
+    -- where it has no pool nothing stands in the journal alone any more, and where pages stand in slots of a pool the gate names the other map,
     pub closed : is_pool (g.content old) ≡ false → IsClosed (g.sector_count old) (g.content new)
+    pub anew : is_pool (g.content old) ≡ true → (IsClosed (g.sector_count old) (g.content old) → ⊥) → pool_named (g.content new) ≡ not (pool_named (g.content old))
+    -- nothing is unsynced, and what lies outside of gate, journal, pool and homes is as it was.
     pub synced : (k : ℕ) → g.unsynced new k → ⊥
-    -- and what lies outside of gate, journals, pool and homes is as it was.
+    pub outside : KeepsOutside (g.sector_count old) (g.content old) (g.content new)
+
+  -- The store on a device is tidied, and left:
+  pub record TidiesOn (old new : D) : Type 0 where
+    -- its image was one of a store,
+    pub store : IsStore (g.sector_count old) (g.content old)
+    -- no page stands in the journal or in a slot alone any more,
+    pub closed : IsClosed (g.sector_count old) (g.content new)
+    -- nothing is unsynced, and what lies outside of gate, journal, pool and homes is as it was.
+    pub synced : (k : ℕ) → g.unsynced new k → ⊥
     pub outside : KeepsOutside (g.sector_count old) (g.content old) (g.content new)
 
   -- These pages become durable all at once:
@@ -100,5 +112,5 @@ module _ {D : Type 0} (g : Ghosts D) where
     -- every image of a stop at any moment of the call stands for the files before or after,
     pub any_moment : (files : ℕ → Option FileInfo) (before after : ℕ → ℕ → List ℕ) → LeavesNow g old (StandsFor (g.sector_count old) files before) → Changes files list given before after
         → LeavesOnly g old new (StandsForEither (g.sector_count old) files before after)
-    -- and what lies outside of gate, journals, pool and homes is as it was.
+    -- and what lies outside of gate, journal, pool and homes is as it was.
     pub outside : KeepsOutside (g.sector_count old) (g.content old) (g.content new)

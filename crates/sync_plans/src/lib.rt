@@ -1,6 +1,6 @@
 //! Plans of device calls for the image of a store: this crate never touches a device. It works on the bytes of an image
 //! that the caller lends, and lists the writes and syncs that the caller has to make of the image's file. What a stop in
-//! the midst of them leaves is a theorem on `plan_open` and `plan_commit`.
+//! the midst of them leaves is a theorem on `plan_open`, `plan_tidy` and `plan_commit`.
 #![tactic(auto)]
 
 mod call;
@@ -13,7 +13,7 @@ mod updates;
 
 pub use call::Call;
 pub use lent_pages::PageBytes;
-pub use planning::{file_facts, plan_commit, plan_open, read_page};
+pub use planning::{file_facts, plan_commit, plan_open, plan_tidy, read_page};
 pub use requests::Refusal;
 pub use scratch::Scratch;
 pub use updates::PageUpdates;

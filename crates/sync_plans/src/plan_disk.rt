@@ -276,8 +276,8 @@ impl<'a> PlanDisk<'a> {
         self.untouched.without(call.sector, end, self.read)
     }
 
-    /// Which of the lent pages come before the one that is looked for at sector `n`: as many as pages were written, but those that were copied. They are
-    /// copied each behind its read, from one that lies before. Where one that was copied had the bytes of the first of the caller's by chance, the next one
+    /// Which of the lent pages come before the one that is looked for at sector `n`: as many as pages were written since the last sync, but those that were
+    /// copied. They are copied each behind its read, from one that lies before. Where one that was copied had the bytes of the first of the caller's by chance, the next one
     /// of these lies directly behind it, and the first counts too.
     fn next_at(&self, n: u64) -> usize {
         if n == self.after && !self.is_fresh {
@@ -471,7 +471,11 @@ impl SectorDisk for PlanDisk<'_> {
             from: 0,
         };
         match self.list(call, &[0; SECTOR_BYTES]) {
-            Ok(()) => Ok(()),
+            Ok(()) => {
+                // The pages of a commit lie between two syncs.
+                self.next = 0;
+                Ok(())
+            }
             Err(fault) => Err(fault),
         }
     }

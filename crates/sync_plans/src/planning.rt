@@ -3,22 +3,22 @@ ghost use Rattle.std.specs.Prelude.{◌≡◌, ℕ, List, [], Option, IfOk, IfEr
 ghost use Rattle.vm_types.specs.declared.file.FileInfo.{FileInfo};
 ghost use Rattle.file_store.specs.Standing.{IsPageOf};
 ghost use Rattle.stores.specs.Commit.{ArePages};
-ghost use Rattle.stores.specs.Images.{StandsFor, file_info, free_pages};
+ghost use Rattle.stores.specs.Images.{StandsFor, capacity_pages, file_info};
 ghost use Rattle.sync_plans.specs.Pages.{lent_page};
-ghost use Rattle.sync_plans.specs.Planned.{PlansOpening, PlansCommit};
+ghost use Rattle.sync_plans.specs.Planned.{PlansOpening, PlansTidying, PlansCommit};
 ghost use Rattle.sync_plans.specs.Plans.{row, room_of, AreCalls};
 ghost use Rattle.sync_plans.specs.Requests.{IsStore, AreReadOnly, RefusesImage};
 
 use crate::call::Call;
 use crate::plan_disk::PlanDisk;
-use crate::requests::{Refusal, commit, facts, open, read};
+use crate::requests::{Refusal, commit, facts, open, read, tidy};
 use crate::scratch::Scratch;
 use crate::updates::PageUpdates;
 use std::alloc::Global;
 use vm_types::{FileInfo, FilePage};
 
-/// Plans that pages become durable all at once. There is at least one and there are no more than the store takes: 1,023 of layouts 2 and 3, of layout 4
-/// as many as it has free slots.
+/// Plans that pages become durable all at once. There is at least one and there are no more than the store takes: 1,023 of layout 2, of layout 4
+/// as many as its pool has slots. Where fewer of these are free, all pages that stand in slots are brought home first, which takes 2 syncs more.
 ///
 /// Pages best come in rising order, by file and then by page. Then the plan takes a time that grows as it does, and of layout 4 a call names each page where
 /// it is lent, but one with bytes past its file's end. In another order each page is looked for among those before it, and of layout 4 one that does not stand at its
@@ -41,7 +41,7 @@ pub fn plan_commit(
     ensures commits { IfOk result (λ used. PlansCommit image.now (room_of scratch.entry.calls.now scratch.entry.rows.now calls.old rows.old) updates.entry.pages.now (lent_page updates.entry.bytes.now) calls.new rows.new used) }
     ensures no_room { IfErr result (λ refusal. refusal ≡ Refusal.Device → AreCalls (length image.now) calls.new (room_of scratch.entry.calls.now scratch.entry.rows.now calls.old rows.old)) }
     ensures refused { IfErr result (RefusesImage (length image.now) (row image.now)
-        (ArePages (file_info (length image.now) (row image.now)) 1 (free_pages (length image.now) (row image.now)) updates.entry.pages.now → ⊥)
+        (ArePages (file_info (length image.now) (row image.now)) (capacity_pages (length image.now) (row image.now)) updates.entry.pages.now → ⊥)
         (AreReadOnly (length image.now) (row image.now) updates.entry.pages.now)) }
 {
     let PageUpdates { pages, bytes } = updates;
@@ -57,7 +57,7 @@ pub fn plan_commit(
     }
 }
 
-/// Plans that what a stop has left is carried out: what stands in an open journal of layout 2 or 3, or the map of a pool, which is written anew in the place
+/// Plans that what a stop has left is carried out: what stands in an open journal of layout 2, or the map of a pool, which is written anew in the place
 /// of the other one.
 ///
 /// # Errors
@@ -76,6 +76,34 @@ pub fn plan_open(
 {
     let disk = PlanDisk::new(image, &[], scratch, calls.len().min(rows.len()));
     let (disk, outcome) = open(alloc, disk);
+    disk.copy_to(calls, rows);
+    if disk.full {
+        return Err(Refusal::Device);
+    }
+    match outcome {
+        Ok(()) => Ok(disk.used),
+        Err(refusal) => Err(refusal),
+    }
+}
+
+/// Plans that all pages are brought home that stand in slots of a pool, so that all slots are free, or in an open journal of layout 2.
+///
+/// # Errors
+///
+/// Those of `plan_open`.
+pub fn plan_tidy(
+    alloc: Global,
+    image: &[[u8; 512]],
+    scratch: Scratch<'_>,
+    calls: &mut [Call],
+    rows: &mut [[u8; 512]],
+) -> Result<usize, Refusal>
+    ensures tidies { IfOk result (λ used. PlansTidying image.now (room_of scratch.entry.calls.now scratch.entry.rows.now calls.old rows.old) (lent_page []) calls.new rows.new used) }
+    ensures no_room { IfErr result (λ refusal. refusal ≡ Refusal.Device → AreCalls (length image.now) calls.new (room_of scratch.entry.calls.now scratch.entry.rows.now calls.old rows.old)) }
+    ensures refused { IfErr result (RefusesImage (length image.now) (row image.now) ⊥ ⊥) }
+{
+    let disk = PlanDisk::new(image, &[], scratch, calls.len().min(rows.len()));
+    let (disk, outcome) = tidy(alloc, disk);
     disk.copy_to(calls, rows);
     if disk.full {
         return Err(Refusal::Device);

@@ -4,9 +4,9 @@ ghost use Rattle.vm_types.specs.declared.file.FileInfo.{FileInfo};
 ghost use Rattle.disk_model.specs.Moments.{LeavesOnly, LeavesNow};
 ghost use Rattle.file_store.specs.Standing.{IsPageOf};
 ghost use Rattle.stores.specs.Commit.{ArePages};
-ghost use Rattle.stores.specs.Images.{StandsFor, StandsForEither, file_info, free_pages};
+ghost use Rattle.stores.specs.Images.{StandsFor, StandsForEither, capacity_pages, file_info};
 ghost use Rattle.sync_plans.specs.Pages.{lent_page};
-ghost use Rattle.sync_plans.specs.Requests.{IsStore, AreReadOnly, RefusesOn, StaysStore, OpensStore, CommitsStore};
+ghost use Rattle.sync_plans.specs.Requests.{IsStore, AreReadOnly, RefusesOn, StaysStore, OpensStore, TidiesOn, CommitsStore};
 
 use crate::lent_pages::{LentPages, PageBytes};
 use batches::{BadBatch, check_page, check_pages};
@@ -74,6 +74,27 @@ pub(crate) fn open<D: SectorDisk + Drop>(alloc: Global, disk: D) -> (D, Result<(
     }
 }
 
+/// Brings all pages of the store home, and leaves it.
+pub(crate) fn tidy<D: SectorDisk + Drop>(alloc: Global, disk: D) -> (D, Result<(), Refusal>)
+    requires { D.keeps_model disk → (k : ℕ) → D.unsynced disk k → ⊥ }
+    ensures stays { StaysStore D.SectorDisk disk result.0 }
+    // Whatever comes of it, at any moment of the call the image stands for the files that it stood for.
+    ensures any_moment { D.keeps_model result.0 → (files : ℕ → Option FileInfo) (before : ℕ → ℕ → List ℕ)
+        → LeavesNow D.SectorDisk disk (StandsFor (D.sector_count disk) files before)
+        → LeavesOnly D.SectorDisk disk result.0 (StandsForEither (D.sector_count disk) files before before) }
+    ensures tidies { D.keeps_model result.0 → OnOk result.1 (TidiesOn D.SectorDisk disk result.0) }
+    ensures refused { IfErr result.1 (RefusesOn D.SectorDisk disk result.0 ⊥ ⊥) }
+{
+    let mut store = match Store::resume(alloc, disk) {
+        Ok(store) => store,
+        Err((fault, disk)) => return (disk, Err(unopened(fault))),
+    };
+    match store.tidy() {
+        Ok(()) => (store.into_disk(), Ok(())),
+        Err(_) => (store.into_disk(), Err(Refusal::Device)),
+    }
+}
+
 /// The facts of a file, where the store has it.
 pub(crate) fn facts<D: SectorDisk + Drop>(
     alloc: Global,
@@ -121,7 +142,7 @@ pub(crate) fn read<D: SectorDisk + Drop>(
     }
 }
 
-/// Makes pages durable all at once.
+/// Makes pages durable all at once. Where fewer slots are free than they are, all pages are brought home first.
 pub(crate) fn commit<D: SectorDisk + Drop>(
     alloc: Global,
     disk: D,
@@ -133,16 +154,20 @@ pub(crate) fn commit<D: SectorDisk + Drop>(
     ensures stays { StaysStore D.SectorDisk disk result.0 }
     ensures commits { D.keeps_model result.0 → OnOk result.1 (CommitsStore D.SectorDisk disk result.0 pages.now (lent_page bytes.now)) }
     ensures refused { IfErr result.1 (RefusesOn D.SectorDisk disk result.0
-        (D.keeps_model result.0 → ArePages (file_info (D.sector_count disk) (D.content disk)) 1 (free_pages (D.sector_count disk) (D.content disk)) pages.now → ⊥)
+        (D.keeps_model result.0 → ArePages (file_info (D.sector_count disk) (D.content disk)) (capacity_pages (D.sector_count disk) (D.content disk)) pages.now → ⊥)
         (D.keeps_model result.0 → AreReadOnly (D.sector_count disk) (D.content disk) pages.now)) }
 {
     let mut store = match Store::resume(alloc, disk) {
         Ok(store) => store,
         Err((fault, disk)) => return (disk, Err(unopened(fault))),
     };
-    match check_pages(&store, pages) {
+    match check_pages(&store, store.capacity_pages(), pages) {
         Ok(()) => {}
         Err(fault) => return (store.into_disk(), Err(untaken(fault))),
+    }
+    match store.make_room_for(pages.len()) {
+        Ok(()) => {}
+        Err(_) => return (store.into_disk(), Err(Refusal::Device)),
     }
     let mut source = LentPages { pages: bytes };
     match store.commit(pages, &mut source) {

@@ -10,7 +10,6 @@ use crate::evictions::{
 use crate::{evictions, four_levels, histories, mappings, private_memory, processes, shared_pages};
 use machine::Config;
 use stores::NewStore;
-use sync_journal::Journals;
 use vm_types::Mode;
 
 /// The file of some rows is a page of the letter A, which may only be read.
@@ -99,12 +98,6 @@ const WITHOUT_SLOTS: Setting = Setting {
     armed: Armed::Nothing,
 };
 
-/// The same over two journals in turn.
-const IN_TURN: Setting = Setting {
-    store: NewStore::Journals(Journals::Paired),
-    ..WITHOUT_SLOTS
-};
-
 /// The same over the smallest pool.
 const IN_A_POOL: Setting = Setting {
     store: NewStore::Pool(1),
@@ -121,9 +114,8 @@ msync 1 0x10000 0x2000 sync\n",
 
 /// How many writes and syncs the store's device is asked for once a machine has started. An msync of `n` pages has `8 n` sectors of the
 /// body, eight of the map, and the gate, with two syncs; before it comes what a journal that is live still owes to the homes, which takes
-/// two syncs more, or with two journals in turn none. Those owe nothing to a home that is taken again. A pool owes nothing to any: its map is
-/// one block here, as long as few pages have slots. Pages that are given up are never written home.
-const ASKED: [(Setting, Exchange<'static>, (u64, u64)); 18] = [
+/// two syncs more. A pool owes nothing to any: its map is one block here, as long as few pages have slots. Pages that are given up are never written home.
+const ASKED: [(Setting, Exchange<'static>, (u64, u64)); 16] = [
     (PLAIN, (b"", b""), (0, 0)),
     (PLAIN, STORED, (0, 0)),
     (PLAIN, STORED_AND_SYNCED, (17, 2)),
@@ -149,10 +141,8 @@ const ASKED: [(Setting, Exchange<'static>, (u64, u64)); 18] = [
     (WITHOUT_SLOTS, LOOKED_AFTER_AN_MSYNC, (17, 2)),
     (WITHOUT_SLOTS, LOOKED_AFTER_TWO_MSYNCS, (43, 6)),
     (WITHOUT_SLOTS, PAGES_IN_TURN, (17 + 26 + 34, 10)),
-    (IN_TURN, STORED, (0, 0)),
-    (IN_TURN, STORED_AND_SYNCED, (17, 2)),
-    (IN_TURN, LOOKED_AFTER_TWO_MSYNCS, (34, 4)),
-    (IN_TURN, PAGES_IN_TURN, (17 + 25 + 25, 6)),
+    (IN_A_POOL, STORED, (0, 0)),
+    (IN_A_POOL, STORED_AND_SYNCED, (17, 2)),
     (IN_A_POOL, LOOKED_AFTER_TWO_MSYNCS, (34, 4)),
     (IN_A_POOL, PAGES_IN_TURN, (17 + 17 + 25, 6)),
 ];

@@ -12,7 +12,6 @@ use std::fmt::Debug;
 use std::io::{Read, Write};
 use std::process::Abort;
 use stores::{NewStore, format, image_bytes};
-use sync_journal::Journals;
 use vm_types::Mode;
 
 /// A trace, and the replies that are wanted.
@@ -43,8 +42,8 @@ pub(crate) const SMALL: Config = Config {
     mode: Mode::Sv39,
 };
 
-/// A store of one journal.
-pub(crate) const SINGLE: NewStore = NewStore::Journals(Journals::Single);
+/// A store of layout 2.
+pub(crate) const SINGLE: NewStore = NewStore::Journal;
 
 /// What a trace is run on: a machine of that size over a file of so many zeros, in such a store, and the fault of its devices.
 #[derive(Clone, Copy)]

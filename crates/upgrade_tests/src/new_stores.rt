@@ -1,12 +1,11 @@
 //! Stores of layouts 2 and 3 made anew in layout 4. Their bytes are worked out by hand.
 use crate::bench::{byte, equal, expect, holds, left, opened, opens, put, repeated, sector_with};
-use crate::old_stores::{FIRST, LAST, LOCKED, PLACES, Place, committed, old_store};
+use crate::old_stores::{FIRST, LAST, LOCKED, PLACES, Place, gate_of, old_store, with_journal};
 use disk_model::{SectorDisk, SimDisk};
 use file_store::UpgradeFault;
 use std::alloc::Global;
 use std::process::Abort;
 use std::test::Fail;
-use sync_journal::Journals;
 use upgrades::upgrade;
 use vm_types::FileInfo;
 
@@ -18,18 +17,18 @@ const SECTORS: u64 = HOMES + 8 * (4 + 3);
 /// How many writes an upgrade makes: a block of a map, the gate, the directory, the pages, the kind, and the mark.
 const WRITES: u64 = 8 + 1 + 32 + 24 + 1 + 1;
 
-/// Upgrades a store that was committed to: what it tells, and the new device. The old one is not written.
+/// Upgrades a store with a page in its journal: what it tells, and the new device. The old one is not written.
 fn upgraded(
     alloc: Global,
     place: &Place,
     old_call: u64,
     new_write: u64,
 ) -> Result<(Result<(), UpgradeFault>, SimDisk), Fail> {
-    let mut old = committed(alloc, place)?;
+    let mut old = with_journal(alloc, place)?;
     old.fail_at(old_call);
     let mut new = SimDisk::new(alloc, SECTORS)?;
     new.stop_at(new_write);
-    let (old, told) = upgrade(old, &mut new, 1);
+    let told = upgrade(&mut old, &mut new, 1);
     expect(old.writes() == 0, "the old device is written")?;
     Ok((told, new))
 }
@@ -50,6 +49,8 @@ fn a_new_store_is_made_byte_for_byte(rt: HostRuntime) -> Result<(), Fail> {
             (HOMES + 2, sector_with(&locked)),
             (HOMES + 31, sector_with(&[(256, 1)])),
             (HOMES + 32, [b'x'; 512]),
+            (HOMES + 39, [b'x'; 512]),
+            (HOMES + 40, sector_with(&[(0, b'b')])),
             (HOMES + 48, sector_with(&[(0, b'c'), (1, b'c'), (2, b'c')])),
         ];
         expect(holds(&new, &wanted), "the new device")?;
@@ -73,12 +74,8 @@ fn a_new_store_has_the_files_and_pages_of_the_old_one(rt: HostRuntime) -> Result
         for (n, info) in infos {
             equal(&rt, store.file(n), info);
         }
-        let last = match place.journals {
-            Journals::Single => b'b',
-            Journals::Paired => b'y',
-        };
         equal(&rt, byte(&mut store, FIRST, 4096)?, b'x');
-        equal(&rt, byte(&mut store, LAST, 1)?, last);
+        equal(&rt, byte(&mut store, LAST, 1)?, b'b');
         equal(&rt, byte(&mut store, LOCKED, 3)?, b'c');
     }
     Ok(())
@@ -96,11 +93,8 @@ fn mark(layout: u8) -> [u8; 512] {
 
 /// Each has what the faults behind its own ask for too: the first of them is to be told.
 fn refusals(place: &Place) -> [Refusal; 11] {
-    // Of layout 2 the map counts where the gate is open. It names home 0 twice.
-    let gate = match place.journals {
-        Journals::Single => (2, repeated(b"GATEOPEN")),
-        Journals::Paired => (16, [0; 512]),
-    };
+    // The map names home 0 twice.
+    let gate = (place.gate, gate_of(place));
     let twice = (place.map, sector_with(&[(0, 2)]));
     let past_the_last = sector_with(&[(0, 3), (3, 0x80), (4, 1)]);
     let directory = (place.directory, past_the_last);
@@ -135,10 +129,10 @@ fn expect_refusal(
     refusal: Refusal,
 ) -> Result<(), Fail> {
     let (changes, sectors, layout, fault) = refusal;
-    let old = old_store(rt.alloc(), place, &changes)?;
+    let mut old = old_store(rt.alloc(), place, &changes)?;
     let mut new = SimDisk::new(rt.alloc(), sectors)?;
     put(&mut new, 0, &mark(layout))?;
-    let (old, told) = upgrade(old, &mut new, 1);
+    let told = upgrade(&mut old, &mut new, 1);
     equal(rt, told, Err(fault));
     equal(rt, (old.writes(), new.writes()), (0, 1));
     Ok(())
@@ -176,12 +170,8 @@ fn a_stopped_upgrade_leaves_no_mark_or_the_whole_store(rt: HostRuntime) -> Resul
 #[test]
 fn a_fault_names_the_device_that_failed(rt: HostRuntime) -> Result<(), Fail> {
     for place in PLACES {
-        // Kind, mark and directory are read; of layout 2 an open gate, its map and three pages; of layout 3 there is a sync, and mark and kind are
-        // read once more.
-        let calls = match place.journals {
-            Journals::Single => 1 + 2 + 1 + 8 + 24,
-            Journals::Paired => 1 + 1 + 3 + 1 + 8 + 24,
-        };
+        // Kind, mark, directory, gate, map and three pages are read.
+        let calls = 1 + 2 + 1 + 8 + 24;
         for call in [1, 2, 3, 4, 5, 6, 12, 13, calls] {
             let (told, _) = upgraded(rt.alloc(), &place, call, 0)?;
             equal(&rt, told, Err(UpgradeFault::OldDevice));

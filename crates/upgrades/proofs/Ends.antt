@@ -1,15 +1,15 @@
 -- How an upgrade ends.
-use Rattle.upgrades.proofs.Names.{◌≡◌, ◌⊎◌, ◌∙◌, ℕ, List, Option, Result, Err, OnOk, inl, inr, refl, ⊎_elim, sym, ap, subst, arith, IsErrAnd, AsksOnly, Ghosts, Image, Nothing, RunsOnDevice, Touches, one_more}
+use Rattle.upgrades.proofs.Names.{◌≡◌, ◌⊎◌, ◌∙◌, ℕ, List, Option, Result, Err, inl, inr, refl, ⊎_elim, sym, ap, subst, arith, IsErrAnd, AsksOnly, Ghosts, Image, NamesOnce, Nothing, RunsOnDevice, Touches, once_apart, once_wider}
 use Rattle.vm_types.specs.declared.file.FileInfo.{FileInfo}
 use Rattle.directories.specs.Kinds.{IsKind}
-use Rattle.file_store.proofs.{Causes.{is_this, same_Err}}
-use Rattle.file_store.specs.{Blocks.{KindBehind, MakesByBlocks}, Format.{IsFrom, IsMarkSector}, Layout.{IsMark}, Making.{LooksFirst}, Standing.{IsBadJournal, IsBadLayout, file_info, standing_page}, Upgrade.{HasUpgradeCauses}}
-use Rattle.file_store.specs.declared.faults.UpgradeFault.{UpgradeFault, TheVariants.{OldDevice, OldLayout, OldJournal, NewSmall, Formatted}}
-use Rattle.disk_model.specs.Moments.{LeavesOnly}
-use Rattle.pool_store.proofs.{Older.{with_kind, without_mark}, Stopped.{LeavesNoPart, SameFrom}}
-use Rattle.pool_store.specs.{Format.{new_pages}, Pools.{pool_mark}}
-use Rattle.upgrades.proofs.{Tables.{inner_moves}, Whole.{AreFiles, facts, good, page_stands}}
-use Rattle.upgrades.specs.{Finding.{FindsOld}, NewPool.{HasRoomFor, IsInnerUpgrade, IsTooSmall, IsTooSmall.{FewHomes, FewSectors}, IsUnmarkedUpgrade, IsUpgradeIfHeaded, IsUpgradeIfMarked, IsUpgradeOf, IsUpgradeSector}, Old.{disk_of}, Upgraded.{IsOldAsked, LooksThenCopies, UpgradesToPool}, declared.old_files.OldFiles.{OldFiles}}
+use Rattle.file_store.proofs.{Causes.{is_this, same_Err}, Openings.{content_is}}
+use Rattle.file_store.specs.{Blocks.{KindBehind}, Format.{IsFrom, IsMarkSector}, Layout.{IsMark}, Making.{LooksFirst}, Upgrade.{HasUpgradeCauses, IsOldAsked as IsVersionAsked, IsOldHead}}
+use Rattle.file_store.specs.declared.{faults.UpgradeFault.{UpgradeFault, TheVariants.{OldDevice, OldLayout, OldJournal, NewSmall, Formatted}}, old_store.OldStore.{OldStore}}
+use Rattle.pool_store.proofs.Stopped.{LeavesNoPart, SameFrom}
+use Rattle.pool_store.specs.{Format.{IsUnmarkedPoolSector, new_pages}, Pools.{pool_mark}}
+use Rattle.upgrades.proofs.{Old.{bounded_is, file_is, head_apart, page_is_cut}, Tables.{inner_moves}, Versions.{with_kind, without_mark}, Whole.{AreFiles, facts, good, page_stands}}
+use Rattle.upgrades.specs.{Copying.{WritesKindLast}, Finding.{LooksAtKind}, NewPool.{HasRoomFor, IsInnerUpgrade, IsTooSmall, IsTooSmall.{FewHomes, FewSectors}, IsUnmarkedUpgrade, IsUpgradeIfHeaded, IsUpgradeIfMarked, IsUpgradeOf, IsUpgradeSector, pages_before}}
+use Rattle.upgrades.specs.{Old.{IsBadJournal, IsBadLayout, IsOldPage, IsReadable, file_info, files_of, standing_page, version_in}, Upgraded.{IsOldAsked, UpgradesToPool}}
 
 -- an image without a mark is no store
 module _ (m old_sectors sectors : ℕ) (old : Image) where
@@ -62,11 +62,12 @@ room_is_not_small m sectors files has (FewSectors few) = let front = has.front i
 room_is_not_small m sectors files has (FewHomes few) = let homes = has.homes in omega (arith, few, homes)
 
 -- what was asked for at most
-pub old_asked : {D : Type 0} (g : Ghosts D) (image : Image) (old new : D) → LooksThenCopies g image old new → AsksOnly g (IsOldAsked image) old new
+pub old_asked : {D : Type 0} (g : Ghosts D) (image : Image) (old new : D) → LooksAtKind g (IsVersionAsked (version_in image) image) old new → AsksOnly g (IsOldAsked image) old new
 old_asked g image old new once = record {
   others = λ k. ⊎_elim
-      (λ same. ⊎_elim (λ looked. inl (inl looked)) (λ before. inr (same ∙ before)) (once.looks k))
-      (λ page. inl (inr page.0)) (once.copies.each k);
+      (λ same. ⊎_elim (λ before. inr (same ∙ before)) (λ kind. inl (inl (inl kind.0))) (once.kind.each k))
+      (λ at. inl (⊎_elim (λ head. inl (inr head)) (λ page. inr page) at.0))
+      (once.rest.each k);
 }
 
 pub new_asked : {D : Type 0} (g : Ghosts D) (W : ℕ → Type 0) (old new : D) → ((k : ℕ) → IsMarkSector k → W k) → LooksFirst W (g.asked old) (g.asked new) → AsksOnly g W old new
@@ -85,7 +86,7 @@ module _ {D E : Type 0} (g : Ghosts D) (h : Ghosts E) (m : ℕ) (old : D) (new n
 module _ {D E T : Type 0} (g : Ghosts D) (h : Ghosts E) (m : ℕ) (old old' : D) (new new' : E) where
   -- refused
   pub upgrade_refused : (fault : UpgradeFault) (r : Result T UpgradeFault) → IsErrAnd r (λ f. f ≡ fault) → RunsOnDevice g Nothing old old' → h.sector_count new' ≡ h.sector_count new → (h.keeps_model new' → h.keeps_model new)
-      → (g.keeps_model old' → LooksThenCopies g (g.content old) old old') → (g.keeps_model old' → LooksFirst (IsUpgradeSector m (g.content old)) (h.asked new) (h.asked new'))
+      → (g.keeps_model old' → LooksAtKind g (IsVersionAsked (version_in (g.content old)) (g.content old)) old old') → (g.keeps_model old' → LooksFirst (IsUpgradeSector m (g.content old)) (h.asked new) (h.asked new'))
       → HasUpgradeCauses {T = T} (g.failures old) (g.failures old') (h.failures new) (h.failures new') (Err fault)
       → (g.keeps_model old' → h.keeps_model new' → Leaves g h m old new new')
       → (g.keeps_model old' → fault ≡ OldLayout → IsBadLayout (g.sector_count old) (g.content old))
@@ -126,59 +127,48 @@ module _ {D E T : Type 0} (g : Ghosts D) (h : Ghosts E) (m : ℕ) (old old' : D)
         causes = causes;
       })
 
--- a store was found first
-module _ {D E T : Type 0} (g : Ghosts D) (h : Ghosts E) (m : ℕ) (old : D) (files : OldFiles D) (found : FindsOld g old files) (same : g.keeps_model (disk_of files) → g.content (disk_of files) ≡ g.content old)
-    (old' : D) (new new' : E) (r : Result T UpgradeFault) (ends : UpgradesToPool g h m (disk_of files) old' new new' r) where
-  -- what is said of sizes and content of the one device is said of the other
-  moved : (F : ℕ → Image → Type 0) → g.keeps_model old' → F (g.sector_count (disk_of files)) (g.content (disk_of files)) → F (g.sector_count old) (g.content old)
-  moved F k held = subst (λ (image : Image). F (g.sector_count old) image) (same (ends.old_kept k)) (subst (λ n. F n (g.content (disk_of files))) found.run.size held)
+-- Under a store that was found on a later state of the device:
+module _ {D : Type 0} (g : Ghosts D) (store : OldStore) (old found : D) (run : RunsOnDevice g Nothing old found) (ready : IsReadable g store found) where
+  same_image : g.keeps_model found → g.content found ≡ g.content old
+  same_image k = content_is g old found (run.touches k)
 
-  back : (F : ℕ → Image → Type 0) → g.keeps_model old' → F (g.sector_count old) (g.content old) → F (g.sector_count (disk_of files)) (g.content (disk_of files))
-  back F k held = subst (λ (image : Image). F (g.sector_count (disk_of files)) image) (sym (same (ends.old_kept k))) (subst (λ n. F n (g.content old)) (sym found.run.size) held)
+  -- what it says is what the image said,
+  pub file_was : g.keeps_model found → (f : ℕ) → files_of store f ≡ file_info (g.content old) f
+  file_was k f = file_is g store found ready k f ∙ ap (λ (image : Image). file_info image f) (same_image k)
 
-  run : RunsOnDevice g Nothing old old'
-  run = one_more g Nothing old (disk_of files) old' found.run (record { size = ends.old_size; kept = ends.old_kept; later = ends.causes.old_later; touches = ends.only_read })
+  pub are_files : g.keeps_model found → AreFiles (file_info (g.content old)) (standing_page (g.content old))
+  are_files k = record {
+    bounded = λ f info is. bounded_is g store found ready k f info (ap (λ (image : Image). file_info image f) (same_image k) ∙ is);
+    cut = page_is_cut (g.content old);
+  }
 
-  once : g.keeps_model old' → LooksThenCopies g (g.content old) old old'
-  once k =
-      let was = moved (λ n image. LooksThenCopies g image (disk_of files) old') k (ends.once_old k) in
+  -- and its files are asked for after what is looked at.
+  pub files_asked : (new : D) → g.keeps_model found → LooksAtKind g (IsOldHead (version_in (g.content old)) (g.content old)) old found → NamesOnce (IsOldPage (g.content found)) (g.asked found) (g.asked new)
+      → LooksAtKind g (IsVersionAsked (version_in (g.content old)) (g.content old)) old new
+  files_asked new k looks pages =
+      let image = g.content old in let version = version_in (g.content old) in
       record {
-        between = was.between;
-        looks = λ s. ⊎_elim (λ looked. inl looked) (λ before. ⊎_elim (λ looked. inl looked) (λ first. inr (before ∙ first)) ((found.asks (ends.old_kept k)).others s)) (was.looks s);
-        copies = was.copies;
+        looked = looks.looked;
+        kind = looks.kind;
+        rest = once_apart (IsOldHead version image) (IsOldPage image) (IsVersionAsked version image) looks.looked (g.asked found) (g.asked new) (λ s at. inl at) (λ s at. inr at) (head_apart version image)
+            looks.rest (subst (λ (i : Image). NamesOnce (IsOldPage i) (g.asked found) (g.asked new)) (same_image k) pages);
       }
 
-  pub upgrades_found : UpgradesToPool g h m old old' new new' r
-  upgrades_found = record {
-    ok = λ k k'. moved (λ n image. OnOk r (IsUpgradeOf m n (h.sector_count new) image (h.content new'))) k (ends.ok k k');
-    marked = ends.marked;
-    synced = ends.synced;
-    any_moment = λ k k' synced none. moved (λ n image. LeavesOnly h new new' (IsUpgradeIfMarked m n (h.sector_count new) image)) k (ends.any_moment k k' synced none);
-    blocks = λ k k' synced none. moved (λ n image. MakesByBlocks h (IsUpgradeIfHeaded m n (h.sector_count new) image) new new') k (ends.blocks k k' synced none);
-    old_size = run.size;
-    size = ends.size;
-    old_kept = run.kept;
-    kept = ends.kept;
-    only_read = run.touches;
-    asks_old = λ k. old_asked g (g.content old) old old' (once k);
-    once_old = once;
-    asks = λ k. moved (λ n image. AsksOnly h (IsUpgradeSector m image) new new') k (ends.asks k);
-    once = λ k. moved (λ n image. LooksFirst (IsUpgradeSector m image) (h.asked new) (h.asked new')) k (ends.once k);
-    old_layout = λ k is. moved IsBadLayout k (ends.old_layout k is);
-    good_layout = λ k bad. ends.good_layout k (back IsBadLayout k bad);
-    old_journal = λ k is. moved IsBadJournal k (ends.old_journal k is);
-    good_journal = λ k bad. ends.good_journal k (back IsBadJournal k bad);
-    new_small = λ k is. moved (λ n image. IsTooSmall m (h.sector_count new) (file_info image)) k (ends.new_small k is);
-    large = λ k small. ends.large k (back (λ n image. IsTooSmall m (h.sector_count new) (file_info image)) k small);
-    formatted = ends.formatted;
-    not_formatted = ends.not_formatted;
-    unwritten = ends.unwritten;
-    causes = record {
-      old_later = run.later;
-      new_later = ends.causes.new_later;
-      old_device = λ is. let more = ends.causes.old_device is in let calm = found.calm in omega (arith, more, calm);
-      new_device = ends.causes.new_device;
-      old_still = λ other. ends.causes.old_still other ∙ found.calm;
-      new_still = ends.causes.new_still;
-    };
-  }
+pub head_asked : {D : Type 0} (g : Ghosts D) (image : Image) (old new : D) → LooksAtKind g (IsOldHead (version_in image) image) old new → LooksAtKind g (IsVersionAsked (version_in image) image) old new
+head_asked g image old new looks = record {
+  looked = looks.looked;
+  kind = looks.kind;
+  rest = once_wider (IsOldHead (version_in image) image) (IsVersionAsked (version_in image) image) looks.looked (g.asked new) (λ s at. inl at) looks.rest;
+}
+
+-- what is written of the files that it lists is written of those of the image
+pub last_of : {E T U : Type 0} (h : Ghosts E) (b m : ℕ) (listed files : ℕ → Option FileInfo) (was image : Image) (mid made : E) (r : Result T U) → b ≡ m → listed ≡ files → was ≡ image
+    → WritesKindLast h b (IsInnerUpgrade b listed (standing_page was)) mid made r → WritesKindLast h m (IsInnerUpgrade m files (standing_page image)) mid made r
+last_of h b m listed files was image mid made r blocks same content last =
+    subst (λ (i : Image). WritesKindLast h m (IsInnerUpgrade m files (standing_page i)) mid made r) content
+    (subst (λ (f : ℕ → Option FileInfo). WritesKindLast h m (IsInnerUpgrade m f (standing_page was)) mid made r) same
+    (subst (λ x. WritesKindLast h x (IsInnerUpgrade x listed (standing_page was)) mid made r) blocks last))
+
+pub sector_of : (b m : ℕ) (listed : ℕ → Option FileInfo) (image : Image) → b ≡ m → listed ≡ file_info image → (s : ℕ) → IsUnmarkedPoolSector b (pages_before listed 64) s → IsUpgradeSector m image s
+sector_of b m listed image blocks same s at =
+    inr (subst (λ p. IsUnmarkedPoolSector m p s) (ap (λ f. pages_before f 64) same) (subst (λ x. IsUnmarkedPoolSector x (pages_before listed 64) s) blocks at))

@@ -1,6 +1,7 @@
 mod Names
-pub mod Found
+pub mod Versions
 pub mod Old
+pub mod Found
 pub mod Counting
 pub mod Tables
 pub mod Copies

@@ -6,8 +6,6 @@ use Rattle.directories.specs.Kinds.{IsKind}
 use Rattle.file_store.specs.{Blocks.{KindBehind, KindLast}, Format.{IsFrom}, Upgraded.{CopiesPages}}
 use Rattle.file_store.specs.declared.faults.UpgradeFault.{UpgradeFault}
 use Rattle.pool_store.specs.Format.{new_pages}
-use Rattle.upgrades.specs.Old.{StaysOld, disk_of}
-use Rattle.upgrades.specs.declared.old_files.OldFiles.{OldFiles}
 
 -- a sector from one on and before another
 abbrev pub IsBetween : ℕ → ℕ → ℕ → Type 0
@@ -15,11 +13,9 @@ IsBetween start end k = (start ≤ k) × (k < end)
 
 module _ {D E T : Type 0} (g : Ghosts D) (h : Ghosts E) where
   -- Pages of the old store are copied:
-  pub record CopiesOld (Read Written : ℕ → Type 0) (old old' : OldFiles D) (new new' : E) (result : Result T UpgradeFault) : Type 0 where
-    -- it stays as it is,
-    pub stays : StaysOld g old old'
+  pub record CopiesOld (Read Written : ℕ → Type 0) (old old' : D) (new new' : E) (result : Result T UpgradeFault) : Type 0 where
     -- of the devices no sectors are read and written but these,
-    pub copies : CopiesPages g h Read Written (disk_of old) (disk_of old') new new' result
+    pub copies : CopiesPages g h Read Written old old' new new' result
     pub open copies use *
     -- and of the new one none is asked for twice.
     pub once : NamesOnce Written (h.asked new) (h.asked new')

@@ -7,8 +7,9 @@ use Rattle.disk_model.specs.{Sectors.{part_of}, Stop.{Image}}
 use Rattle.pool_journal.specs.{Clearing.{IsEmptyPool, IsHeadOfPool}, Pools.{pool_home, pool_home_count}}
 use Rattle.directories.specs.{Entries.{SaysEntry, entry_bytes}, Kinds.{IsKind}}
 use Rattle.directories.specs.declared.entry.Entry.{Entry}
-use Rattle.file_store.specs.{Layout.{IsMark, pages_of_length}, Standing.{IsBadLayout, StandsFor, file_info, standing_page}}
+use Rattle.file_store.specs.Layout.{IsMark, pages_of_length}
 use Rattle.pool_store.specs.{Files.{StandsFor as PoolStandsFor}, Format.{IsHomeSector, IsPoolStoreSector, extents_made, extents_room, home_part, new_pages}, Pools.{entry_standing, pool_mark}, Resume.{pool_on}}
+use Rattle.upgrades.specs.Old.{IsBadLayout, StandsFor, file_info, standing_page}
 
 -- the files of a list
 abbrev pub files_in : List (Option FileInfo) → ℕ → Option FileInfo

@@ -1,22 +1,16 @@
 -- What an upgrade to layout 4 does: from the device of the old store to that of the new one.
 use Rattle.std.specs.Prelude.{ℕ, ◌≡◌, ◌⊎◌, Result, OnOk, IsErr, IsErrOf}
-use Rattle.disk_model.specs.{Moments.{AsksOnly, LeavesOnly, Nothing, Touches}, Stop.{Image, NamesOnce}}
+use Rattle.disk_model.specs.{Moments.{AsksOnly, LeavesOnly, Nothing, Touches}, Stop.{Image}}
 use Rattle.disk_model.specs.declared.sector_disk.SectorDisk.{Ghosts}
-use Rattle.file_store.specs.{Blocks.{MakesByBlocks}, Layout.{IsMark}, Making.{LooksFirst}, Standing.{IsBadJournal, IsBadLayout, file_info}, Upgrade.{HasUpgradeCauses}}
+use Rattle.file_store.specs.{Blocks.{MakesByBlocks}, Layout.{IsMark}, Making.{LooksFirst}, Upgrade.{HasUpgradeCauses, IsOldAsked as IsVersionAsked}}
 use Rattle.file_store.specs.declared.faults.UpgradeFault.{UpgradeFault}
 use Rattle.file_store.specs.declared.faults.UpgradeFault.TheVariants.{Formatted, NewSmall, OldDevice, OldJournal, OldLayout}
 use Rattle.pool_store.specs.Pools.{pool_mark}
-use Rattle.upgrades.specs.{Finding.{IsLookedAt}, NewPool.{IsTooSmall, IsUpgradeIfHeaded, IsUpgradeIfMarked, IsUpgradeOf, IsUpgradeSector}, Old.{IsOldPage}}
+use Rattle.upgrades.specs.{Finding.{LooksAtKind}, NewPool.{IsTooSmall, IsUpgradeIfHeaded, IsUpgradeIfMarked, IsUpgradeOf, IsUpgradeSector}, Old.{version_in, file_info, IsBadJournal, IsBadLayout, IsLookedAt, IsOldPage}}
 
 -- What an upgrade asks of the old store: a look at it, and the pages of the files where they stand.
 abbrev pub IsOldAsked : Image → ℕ → Type 0
 IsOldAsked image k = IsLookedAt image k ⊎ IsOldPage image k
-
--- A store with this image is looked at, and then each sector is asked for once at most in which a page of a file stands.
-pub record LooksThenCopies {D : Type 0} (g : Ghosts D) (image : Image) (old new : D) : Type 0 where
-  pub between : ℕ → ℕ
-  pub looks : (k : ℕ) → IsLookedAt image k ⊎ (between k ≡ g.asked old k)
-  pub copies : NamesOnce (IsOldPage image) between (g.asked new)
 
 module _ {D T E : Type 0} (g : Ghosts D) (h : Ghosts E) where
   -- A store of layout 4, with maps of m blocks, is made on a device that stands for what the store of layout 2 or 3 on another device stands for:
@@ -39,9 +33,10 @@ module _ {D T E : Type 0} (g : Ghosts D) (h : Ghosts E) where
     pub old_kept : g.keeps_model old' → g.keeps_model old
     pub kept : h.keeps_model new' → h.keeps_model new
     pub only_read : g.keeps_model old' → Touches g Nothing old old'
-    -- Of the old one what a look at such a store asks for, and then each page of a file where it stands, no sector of these twice;
+    -- Of the old one sector 1 is asked for, which says its layout, and then mark, directory, gate, map, and each page of a file where it stands, no sector of
+    -- these twice;
     pub asks_old : g.keeps_model old' → AsksOnly g (IsOldAsked (g.content old)) old old'
-    pub once_old : g.keeps_model old' → LooksThenCopies g (g.content old) old old'
+    pub once_old : g.keeps_model old' → LooksAtKind g (IsVersionAsked (version_in (g.content old)) (g.content old)) old old'
     -- of the new one mark, kind, gate, the block of the first map that says how many count, and the homes of directory and files: the mark is looked at,
     -- and then each of them asked for once at most.
     pub asks : g.keeps_model old' → AsksOnly h (IsUpgradeSector m (g.content old)) new new'

@@ -3,12 +3,12 @@ ghost use Rattle.std.specs.Prelude.{◌≡◌, ◌<◌, OnOk, IsErrOf};
 ghost use Rattle.disk_model.specs.{Moments.{Nothing}, Stop.{NamesOnce}};
 ghost use Rattle.directories.specs.Kinds.{IsMapSize};
 ghost use Rattle.sync_journal.specs.{Runs.{RunsOnDevice}, Steps.{SyncsInto}};
-ghost use Rattle.file_store.specs.{Format.{IsMarkSector}, Layout.{IsMark, pool_mark}, Standing.{IsBadJournal, IsBadLayout}, Upgraded.{HasCheckCauses}};
+ghost use Rattle.file_store.specs.{Format.{IsMarkSector}, Layout.{IsMark, pool_mark}, Upgraded.{HasCheckCauses}};
 ghost use Rattle.upgrades.specs.NewPool.{files_in, HasRoomFor, IsTooSmall};
-ghost use Rattle.upgrades.specs.Old.{disk_of, IsReadable};
 ghost use Rattle.upgrades.specs.Upgraded.{UpgradesToPool};
 
-use crate::old_files::OldFiles;
+use crate::finding::find;
+use crate::old_files::list_files;
 use crate::places::has_room;
 use crate::writing::write_unmarked;
 use disk_model::{DiskFault, SECTOR_BYTES, SectorDisk};
@@ -18,7 +18,7 @@ use vm_types::{FILES, FileInfo};
 
 /// Makes a store of layout 4 on `new`, with maps of `blocks` blocks, 1 to 2,048, and a directory of 4 pages, that stands for what the store of layout 2
 /// or 3 on `old` stands for. Each file keeps its number, its length and whether it may only be read; its pages are one extent, none of an empty file, in
-/// the order of the files' numbers, with zeros past the file's end. The pool is empty. `old` is only read, and given back. Pool, directory and homes are
+/// the order of the files' numbers, with zeros past the file's end. The pool is empty. `old` is only read. Pool, directory and homes are
 /// written and synced before the kind is, and the kind before the mark, so that a stop leaves an image without the mark or the whole store.
 ///
 /// # Errors
@@ -28,39 +28,18 @@ use vm_types::{FILES, FileInfo};
 /// pages; and `Formatted`, where sector 0 of `new` is the mark of any layout. These come exactly where they say, unless a device fails first, and nothing was
 /// written then. `OldDevice` and `NewDevice` come exactly where that device failed.
 pub fn upgrade<D: SectorDisk, E: SectorDisk>(
-    old: D,
-    new: &mut E,
-    blocks: u32,
-) -> (D, Result<(), UpgradeFault>)
-    requires { IsMapSize blocks }
-    ensures { UpgradesToPool D.SectorDisk E.SectorDisk blocks old result.0 new.old new.new result.1 }
-{
-    match OldFiles::find(old) {
-        Ok(files) => {
-            let mut files = files;
-            let result = copy_store(&mut files, new, blocks);
-            (files.into_disk(), result)
-        }
-        Err((fault, old)) => (old, Err(UpgradeFault::from(fault))),
-    }
-}
-
-/// The same of a store that was found.
-fn copy_store<D: SectorDisk, E: SectorDisk>(
-    old: &mut OldFiles<D>,
+    old: &mut D,
     new: &mut E,
     blocks: u32,
 ) -> Result<(), UpgradeFault>
-    requires maps { IsMapSize blocks }
-    requires ready { IsReadable D.SectorDisk old.old }
-    requires good_layout { D.keeps_model (disk_of old.old) → IsBadLayout (D.sector_count (disk_of old.old)) (D.content (disk_of old.old)) → ⊥ }
-    requires good_journal { D.keeps_model (disk_of old.old) → IsBadJournal (D.sector_count (disk_of old.old)) (D.content (disk_of old.old)) → ⊥ }
-    ensures { UpgradesToPool D.SectorDisk E.SectorDisk blocks (disk_of old.old) (disk_of old.new) new.old new.new result }
+    requires { IsMapSize blocks }
+    ensures { UpgradesToPool D.SectorDisk E.SectorDisk blocks old.old old.new new.old new.new result }
 {
-    let files = old.files();
+    let store = find(old)?;
+    let files = list_files(&store);
     check_new(new, blocks, &files)?;
     let sizes = PoolSizes::of(blocks, new.sectors());
-    write_unmarked(old, new, sizes, &files)?;
+    write_unmarked(&store, old, new, sizes, &files)?;
     write_mark(new)?;
     Ok(())
 }

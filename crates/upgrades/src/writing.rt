@@ -4,39 +4,39 @@ ghost use Rattle.vm_types.specs.Limits.{file_limit};
 ghost use Rattle.directories.specs.Kinds.{IsKind, IsMapSize};
 ghost use Rattle.pool_journal.specs.Sizes.{HasPool};
 ghost use Rattle.sync_journal.specs.Steps.{SyncsInto, WritesInto};
-ghost use Rattle.file_store.specs.{Format.{IsKindSector}, Standing.{standing_page}, Store.{entry_of}};
+ghost use Rattle.file_store.specs.Format.{IsKindSector};
 ghost use Rattle.pool_store.specs.Format.{IsInnerSector, IsUnmarkedPoolSector, new_pages};
 ghost use Rattle.upgrades.specs.Copying.{CopiesOld, WritesKindLast};
 ghost use Rattle.upgrades.specs.NewPool.{files_in, first_of, pages_before, HasTables, IsInnerUpgrade, IsTableSector};
-ghost use Rattle.upgrades.specs.Old.{directory_of, disk_of, files_of, place_of, IsFilePlace, IsReadable};
+ghost use Rattle.upgrades.specs.Old.{files_of, standing_page, IsOldPage, IsReadable};
 
 use crate::copying::copy_files;
 use crate::new_directory::write_directory;
-use crate::old_files::OldFiles;
 use directories::Kind;
 use disk_model::{DiskFault, SectorDisk};
-use file_store::{KIND_SECTOR, UpgradeFault};
+use file_store::{KIND_SECTOR, OldStore, UpgradeFault};
 use pool_journal::{PoolJournal, PoolSizes};
 use pool_store::DIRECTORY_PAGES;
 use vm_types::{FILES, FileInfo};
 
 /// Writes all but the mark, the kind last, and syncs.
 pub(crate) fn write_unmarked<D: SectorDisk, E: SectorDisk>(
-    old: &mut OldFiles<D>,
+    store: &OldStore,
+    old: &mut D,
     new: &mut E,
     sizes: PoolSizes,
     files: &[Option<FileInfo>; FILES],
 ) -> Result<(), UpgradeFault>
-    requires ready { IsReadable D.SectorDisk old.old }
+    requires ready { IsReadable D.SectorDisk store.now old.old }
     requires pool { HasPool E.SectorDisk sizes new.old }
-    requires files { (f : ℕ) → files_in files.now f ≡ files_of old.old f }
+    requires files { (f : ℕ) → files_in files.now f ≡ files_of store.now f }
     requires homes { first_of (files_in files.now) file_limit ≤ sizes.homes }
-    ensures copies { CopiesOld D.SectorDisk E.SectorDisk (IsFilePlace (place_of old.old) (entry_of (directory_of old.old)) file_limit)
+    ensures copies { CopiesOld D.SectorDisk E.SectorDisk (IsOldPage (D.content old.old))
         (IsUnmarkedPoolSector sizes.blocks (pages_before (files_in files.now) file_limit)) old.old old.new new.old new.new result }
-    ensures last { D.keeps_model (disk_of old.new) → E.keeps_model new.new
-        → WritesKindLast E.SectorDisk sizes.blocks (IsInnerUpgrade sizes.blocks (files_in files.now) (standing_page (D.content (disk_of old.old)))) new.old new.new result }
+    ensures last { D.keeps_model old.new → E.keeps_model new.new
+        → WritesKindLast E.SectorDisk sizes.blocks (IsInnerUpgrade sizes.blocks (files_in files.now) (standing_page (D.content old.old))) new.old new.new result }
 {
-    write_inner(old, new, sizes, files)?;
+    write_inner(store, old, new, sizes, files)?;
     new.sync()?;
     write_kind(new, sizes.blocks)?;
     Ok(())
@@ -44,22 +44,23 @@ pub(crate) fn write_unmarked<D: SectorDisk, E: SectorDisk>(
 
 /// Writes an empty pool, the directory and the files, and syncs nothing.
 fn write_inner<D: SectorDisk, E: SectorDisk>(
-    old: &mut OldFiles<D>,
+    store: &OldStore,
+    old: &mut D,
     new: &mut E,
     sizes: PoolSizes,
     files: &[Option<FileInfo>; FILES],
 ) -> Result<(), UpgradeFault>
-    requires ready { IsReadable D.SectorDisk old.old }
+    requires ready { IsReadable D.SectorDisk store.now old.old }
     requires pool { HasPool E.SectorDisk sizes new.old }
-    requires files { (f : ℕ) → files_in files.now f ≡ files_of old.old f }
+    requires files { (f : ℕ) → files_in files.now f ≡ files_of store.now f }
     requires homes { first_of (files_in files.now) file_limit ≤ sizes.homes }
-    ensures copies { CopiesOld D.SectorDisk E.SectorDisk (IsFilePlace (place_of old.old) (entry_of (directory_of old.old)) file_limit)
+    ensures copies { CopiesOld D.SectorDisk E.SectorDisk (IsOldPage (D.content old.old))
         (IsInnerSector sizes.blocks (pages_before (files_in files.now) file_limit)) old.old old.new new.old new.new result }
-    ensures inner { D.keeps_model (disk_of old.new) → E.keeps_model new.new
-        → OnOk result (IsInnerUpgrade sizes.blocks (files_in files.now) (standing_page (D.content (disk_of old.old))) (E.content new.new)) }
+    ensures inner { D.keeps_model old.new → E.keeps_model new.new
+        → OnOk result (IsInnerUpgrade sizes.blocks (files_in files.now) (standing_page (D.content old.old)) (E.content new.new)) }
 {
     write_tables(new, sizes, files)?;
-    copy_files(old, new, sizes, files)
+    copy_files(store, old, new, sizes, files)
 }
 
 /// Writes an empty pool and the directory, and syncs nothing.

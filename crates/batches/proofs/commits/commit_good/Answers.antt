@@ -1,10 +1,5 @@
-use Rattle.{std.proofs.Common.{ap, rules}, stores.specs.Store.{kept_of, files_in, files_of, free_of}, batches.proofs.Least.{takes_batch}}
+use Rattle.{std.proofs.Common.{ap, rules}, stores.specs.Store.{files_in}}
 use Rattle.batches.proofs.commits.commit_good.Goals as goal
-
-pub commit-requires-clause-pages : goal.commit-requires-clause-pages
-commit-requires-clause-pages g c =
-    let store = c.args.store.now in
-    takes_batch (kept_of store) (files_of store) (free_of store) c.args.pages.now c.requires.pages
 
 pub returns-in-Ok-clause-commits : goal.returns-in-Ok-clause-commits
 returns-in-Ok-clause-commits g c =
@@ -13,6 +8,7 @@ returns-in-Ok-clause-commits g c =
       ok = λ k files before after left changes. done.ok k tt files before after left changes;
       ready = search rules;
       room = search rules;
+      always = search rules;
       calm = search rules;
       any_moment = λ k files before after left changes. done.any_moment k tt files before after left changes;
       files = ap files_in done.files;
@@ -27,6 +23,7 @@ returns-in-Err-clause-commits g c =
       ok = search rules;
       ready = search rules;
       room = search rules;
+      always = search rules;
       calm = search rules;
       any_moment = λ k files before after left changes. failed.any_moment k tt files before after left changes;
       files = ap files_in failed.files;

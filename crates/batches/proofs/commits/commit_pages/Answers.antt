@@ -17,6 +17,7 @@ returns-in-Err-clause-commits g c =
       ok = search rules;
       ready = search rules;
       room = search rules;
+      always = search rules;
       calm = search rules;
       any_moment = λ k files before after left changes. started g.D.SectorDisk disk (StandsForEither (g.D.SectorDisk.sector_count disk) files before after)
           (λ image past. g.met.D.SectorDisk.only_now disk image k past) (λ image may. inl (left image may));

@@ -1,22 +1,37 @@
-use Rattle.file_store.{proofs.{Blocks.{single_paired}, Names.{OnOk, sym, subst, ◌∙◌}}, specs.{Format.{IsLayoutSector, HasHead}, Making.{WritesSynced}}}
+use Rattle.file_store.{proofs.{Asking.{one_once, then_once}, Making.{written_synced, makes_more, makes_write, makes_synced}, Names.{◌≡◌, ℕ, inl, inr, ap, refl, ◌∙◌, arith, rules, once_still}, NewStores.{new_head}}, specs.Format.{IsLayoutSector}}
 use Rattle.file_store.proofs.formatting.write_layout.Goals as goal
 
-pub returns-in-Paired-clause-writes : goal.returns-in-Paired-clause-writes
-returns-in-Paired-clause-writes g c = subst (λ b. WritesSynced g.D.SectorDisk (IsLayoutSector b) c.args.disk.now c.write_turns.new.disk c.write_turns.result) (sym c.in-Paired.is) c.write_turns.ensures.writes
+pub returns-in_err-write-clause-writes : goal.returns-in_err-write-clause-writes
+returns-in_err-write-clause-writes g c =
+    let d = g.D.SectorDisk in
+    let W : ℕ → Type 0 = IsLayoutSector in
+    written_synced d _ _ _ _ (makes_write d W 1 c.args.disk.now c.write.new.self (inl refl) c.write.ensures.size c.write.ensures.kept c.write.ensures.cause.later c.write.ensures.asks c.write.ensures.others c.write.ensures.unsynced c.write.ensures.time)
+    (one_once W 1 _ _ (inl refl) c.write.ensures.asks) (search rules) (search rules) (search rules)
 
-pub returns-in-Single-clause-writes : goal.returns-in-Single-clause-writes
-returns-in-Single-clause-writes g c = subst (λ b. WritesSynced g.D.SectorDisk (IsLayoutSector b) c.args.disk.now c.write_one.new.disk c.write_one.result) (sym c.in-Single.is) c.write_one.ensures.writes
+pub returns-in_err-write-2-clause-writes : goal.returns-in_err-write-2-clause-writes
+returns-in_err-write-2-clause-writes g c =
+    let d = g.D.SectorDisk in
+    let W : ℕ → Type 0 = IsLayoutSector in
+    written_synced d _ _ _ _ (makes_more d W c.args.disk.now c.write.new.self c.write-2.new.self
+    (makes_write d W 1 c.args.disk.now c.write.new.self (inl refl) c.write.ensures.size c.write.ensures.kept c.write.ensures.cause.later c.write.ensures.asks c.write.ensures.others c.write.ensures.unsynced c.write.ensures.time)
+    (makes_write d W 2 c.write.new.self c.write-2.new.self (inr refl) c.write-2.ensures.size c.write-2.ensures.kept c.write-2.ensures.cause.later c.write-2.ensures.asks c.write-2.ensures.others c.write-2.ensures.unsynced c.write-2.ensures.time))
+    (then_once (λ k. k ≡ 1) W 2 _ _ _ (λ k at. inl at) (inr refl) (λ at. omega (arith, at)) (one_once (λ k. k ≡ 1) 1 _ _ refl c.write.ensures.asks) c.write-2.ensures.asks) (search rules) (search rules) (search rules)
 
-pub returns-in-Paired-clause-head : goal.returns-in-Paired-clause-head
-returns-in-Paired-clause-head g c = λ keeps.
-    subst (λ b. OnOk c.write_turns.result (HasHead b c.args.directory.now (g.D.SectorDisk.content c.write_turns.new.disk))) (sym c.in-Paired.is) (c.write_turns.ensures.head keeps)
+pub returns-clause-writes : goal.returns-clause-writes
+returns-clause-writes g c =
+    let d = g.D.SectorDisk in
+    let W : ℕ → Type 0 = IsLayoutSector in
+    written_synced d _ _ _ _ (makes_synced d W c.args.disk.now c.write-2.new.self c.sync.new.self
+    (makes_more d W c.args.disk.now c.write.new.self c.write-2.new.self
+    (makes_write d W 1 c.args.disk.now c.write.new.self (inl refl) c.write.ensures.size c.write.ensures.kept c.write.ensures.cause.later c.write.ensures.asks c.write.ensures.others c.write.ensures.unsynced c.write.ensures.time)
+    (makes_write d W 2 c.write.new.self c.write-2.new.self (inr refl) c.write-2.ensures.size c.write-2.ensures.kept c.write-2.ensures.cause.later c.write-2.ensures.asks c.write-2.ensures.others c.write-2.ensures.unsynced c.write-2.ensures.time))
+    c.sync.ensures.size c.sync.ensures.kept c.sync.ensures.cause.later c.sync.ensures.asks c.sync.ensures.same c.sync.ensures.unsynced c.sync.ensures.time)
+    (once_still W _ _ _ (then_once (λ k. k ≡ 1) W 2 _ _ _ (λ k at. inl at) (inr refl) (λ at. omega (arith, at)) (one_once (λ k. k ≡ 1) 1 _ _ refl c.write.ensures.asks) c.write-2.ensures.asks) c.sync.ensures.asks) (search rules) (search rules) (search rules)
 
-pub returns-in-Single-clause-head : goal.returns-in-Single-clause-head
-returns-in-Single-clause-head g c = λ keeps.
-    subst (λ b. OnOk c.write_one.result (HasHead b c.args.directory.now (g.D.SectorDisk.content c.write_one.new.disk))) (sym c.in-Single.is) (c.write_one.ensures.head keeps)
-
-pub returns-in-Single-clause-last : goal.returns-in-Single-clause-last
-returns-in-Single-clause-last g c = λ keeps. record { epochs = λ paired. absurd (single_paired (sym c.in-Single.is ∙ paired)); kind_behind = λ paired. absurd (single_paired (sym c.in-Single.is ∙ paired)) }
-
-pub returns-in-Paired-clause-last : goal.returns-in-Paired-clause-last
-returns-in-Paired-clause-last g c = λ keeps. record { epochs = λ paired. c.write_turns.ensures.epochs keeps; kind_behind = λ paired. c.write_turns.ensures.kind_behind keeps }
+pub returns-clause-head : goal.returns-clause-head
+returns-clause-head g c = λ keeps.
+    let k2 = c.sync.ensures.kept keeps in
+    let k1 = c.write-2.ensures.kept k2 in
+    new_head c.sync.result c.args.directory.now (g.D.SectorDisk.content c.sync.new.self)
+    (ap (λ image. image 1) (c.sync.ensures.same keeps) ∙ (c.write-2.ensures.others k2).others 1 (λ e. omega (arith, e)) ∙ c.in_ok-write.ensures.written k1)
+    (ap (λ image. image 2) (c.sync.ensures.same keeps) ∙ c.in_ok-write-2.ensures.written k2)

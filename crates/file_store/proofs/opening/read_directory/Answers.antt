@@ -1,5 +1,5 @@
 use Rattle.file_store.proofs.Names.{◌≡◌, ℕ, List, ap, subst, ◌∙◌, rules, once_named}
-use Rattle.file_store.{specs.{Versions.{home_pages_of, directory_of}, Directory.{IsBadDirectory, IsSoundDirectory, AreGood}, Store.{entry_of}}, proofs.{Entries.{good_is_sound}, Images.{good_not_kind}}}
+use Rattle.file_store.{specs.{Versions.{home_pages_of, directory_of}, Directory.{IsBadDirectory, IsSoundDirectory, AreGood}, Store.{entry_of}}, proofs.Entries.{good_is_sound}}
 use Rattle.file_store.proofs.opening.read_directory.Goals as goal
 
 pub returns-in_err-directory-clause-looks : goal.returns-in_err-directory-clause-looks
@@ -10,7 +10,7 @@ returns-in_err-directory-clause-looks g c =
       looks = search rules;
       bad = λ k _.
           let sector : c.read.new.to ≡ g.D.SectorDisk.content c.args.disk.now (directory_of c.args.version) =
-          c.in_ok-read.ensures.gives k ∙ ap (λ (n : ℕ). g.D.SectorDisk.content c.args.disk.now n) c.directory.ensures.is in
+          c.in_ok-read.ensures.gives k ∙ ap (λ (n : ℕ). g.D.SectorDisk.content c.args.disk.now n) c.directory_sector.ensures.is in
           subst (λ (s : List ℕ). IsBadDirectory (home_pages_of c.args.version (g.D.SectorDisk.sector_count c.args.disk.now)) s) sector
           (subst (λ (n : ℕ). IsBadDirectory n c.read.new.to) homes c.in_err-directory.ensures.bad);
       no_journal = search rules;
@@ -23,7 +23,6 @@ returns-clause-found g c =
     record {
       sound = subst (λ (n : ℕ). IsSoundDirectory n (entry_of c.in_ok-directory.directory)) homes
           (good_is_sound c.home_count.result c.read.new.to (entry_of c.in_ok-directory.directory) c.in_ok-directory.ensures.good c.in_ok-directory.ensures.entries);
-      no_kind = good_not_kind c.home_count.result c.read.new.to c.in_ok-directory.ensures.good;
       entries = search rules;
       sector = search rules;
     }
@@ -33,15 +32,15 @@ returns-clause-good g c = λ k.
     let homes : c.home_count.result ≡ home_pages_of c.args.version (g.D.SectorDisk.sector_count c.args.disk.now) =
     c.home_count.ensures ∙ ap (home_pages_of c.args.version) (c.sectors.ensures ∙ c.read.ensures.size) in
     let sector : c.read.new.to ≡ g.D.SectorDisk.content c.args.disk.now (directory_of c.args.version) =
-    c.in_ok-read.ensures.gives k ∙ ap (λ (n : ℕ). g.D.SectorDisk.content c.args.disk.now n) c.directory.ensures.is in
+    c.in_ok-read.ensures.gives k ∙ ap (λ (n : ℕ). g.D.SectorDisk.content c.args.disk.now n) c.directory_sector.ensures.is in
     subst (λ (s : List ℕ). AreGood (home_pages_of c.args.version (g.D.SectorDisk.sector_count c.args.disk.now)) s 64) sector
     (subst (λ (n : ℕ). AreGood n c.read.new.to 64) homes c.in_ok-directory.ensures.good)
 
 pub returns-in_err-read-clause-once : goal.returns-in_err-read-clause-once
-returns-in_err-read-clause-once g c = once_named (λ s. s ≡ directory_of c.args.version) (λ s. s ≡ c.directory.result) _ _ (λ s at. at ∙ c.directory.ensures.is) c.read.ensures.asks
+returns-in_err-read-clause-once g c = once_named (λ s. s ≡ directory_of c.args.version) (λ s. s ≡ c.directory_sector.result) _ _ (λ s at. at ∙ c.directory_sector.ensures.is) c.read.ensures.asks
 
 pub returns-in_err-directory-clause-once : goal.returns-in_err-directory-clause-once
-returns-in_err-directory-clause-once g c = once_named (λ s. s ≡ directory_of c.args.version) (λ s. s ≡ c.directory.result) _ _ (λ s at. at ∙ c.directory.ensures.is) c.read.ensures.asks
+returns-in_err-directory-clause-once g c = once_named (λ s. s ≡ directory_of c.args.version) (λ s. s ≡ c.directory_sector.result) _ _ (λ s at. at ∙ c.directory_sector.ensures.is) c.read.ensures.asks
 
 pub returns-clause-once : goal.returns-clause-once
-returns-clause-once g c = once_named (λ s. s ≡ directory_of c.args.version) (λ s. s ≡ c.directory.result) _ _ (λ s at. at ∙ c.directory.ensures.is) c.read.ensures.asks
+returns-clause-once g c = once_named (λ s. s ≡ directory_of c.args.version) (λ s. s ≡ c.directory_sector.result) _ _ (λ s at. at ∙ c.directory_sector.ensures.is) c.read.ensures.asks

@@ -1,8 +1,8 @@
-use Rattle.{std.proofs.Common.{refl}, lives.proofs.NewStores.{lived_before, upgrade_stands, stopped_upgrade}}
+use Rattle.lives.proofs.NewStores.{lived_before, old_stands, stopped_upgrade, upgrade_stands}
 use Rattle.lives.proofs.laws.upgraded_store.Goals as goal
 
 pub returns-clause-stood : goal.returns-clause-stood
-returns-clause-stood g = λ journals sectors old layout journal. record { layout = layout; journal = journal; facts = λ f. refl; same = λ f k inside. refl }
+returns-clause-stood g = old_stands
 
 pub returns-clause-lived : goal.returns-clause-lived
 returns-clause-lived g = lived_before

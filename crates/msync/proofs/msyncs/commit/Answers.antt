@@ -1,7 +1,7 @@
-use Rattle.msync.proofs.{Asking.{asks_listed}, Committing.{front_few, least_one, are_pages, room_next, room_left, are_spots, front_lists, changes, synced_shows, memory_synced, away_of, err_is}}
+use Rattle.msync.proofs.{Asking.{asks_listed}, Committing.{front_few, are_pages, room_next, room_left, are_spots, front_lists, changes, synced_shows, memory_synced, away_of, err_is}}
 use Rattle.msync.proofs.Committing.{device_failed, source_failed, store_same, commit_done, commit_failed, commit_unread}
 use Rattle.msync.proofs.{Committing.{StoreCommits}, Names.{◌≡◌, ◌≢◌, ◌⊎◌, inl, inr, length, take, refl, sym, ◌∙◌, subst, arith, rules, LeavesNow, AsksOnly, Store, StandsFor, IsReadyStore, IsUsedIn, slots_of, Source, committed, Stall}}
-use Rattle.msync.proofs.Names.{HasRoom, always_free_in, directory_of, disk_of, kept_of, least_of, free_of}
+use Rattle.msync.proofs.Names.{HasRoom, always_free_in, directory_of, disk_of, kept_of, free_of, holds_now}
 use Rattle.msync.{proofs.{Names.{SwapDevice, Stalled, picture_of, IsFit, ShowsPages}, SettledPages.{ready_shared, settles_nothing}}, specs.{Asking.{IsSectorListed}, Choice.{chosen_of, IsAway}, Settling.{Settles, SettlesMemory}}}
 use Rattle.{msync.specs.{Shows.{IsSoundCore}, Spots.{AreSpots, HasSlot}}, swap.specs.declared.pages.Pages.{Pages as Swap_pages}}
 use Rattle.msync.proofs.msyncs.commit.Goals as goal
@@ -9,7 +9,7 @@ use Rattle.msync.proofs.msyncs.commit.Goals as goal
 pub commit-requires-clause-pages : goal.commit-requires-clause-pages
 commit-requires-clause-pages g c =
     let store = c.args.core.now.store in
-    are_pages (picture_of c.args.core.now) (chosen_of c.args.list.now c.args.count) (least_of store) (free_of store) (least_one (kept_of store))
+    are_pages (picture_of c.args.core.now) (chosen_of c.args.list.now c.args.count) (free_of store)
     (omega (arith, c.requires.few, c.requires.sound.room)) c.requires.sound.fit c.requires.listed
 
 pub fill_spots-requires-clause-room : goal.fill_spots-requires-clause-room
@@ -76,6 +76,8 @@ returns-in-Ok g c =
             size = done.size;
             kept = done.kept;
             either = λ k m now. done.any_moment k (model m) s.files s.durable taken now change;
+            most_moment = done.most_moment;
+            most_now = λ k. holds_now g.D.SectorDisk (disk_of old.store) (disk_of c.commit.new.self) _ (λ t image le may. g.met.D.SectorDisk.counts_now _ t image k le may) (done.most_moment k);
           } in
           let Q : Store g.row.D.Denot → Type 0 = λ x. g.D.SectorDisk.keeps_model (disk_of x) → M → LeavesNow g.D.SectorDisk (disk_of old.store) (StandsFor n s.files s.durable)
           → LeavesNow g.D.SectorDisk (disk_of x) (StandsFor n s.files taken) in
@@ -116,7 +118,15 @@ returns-in-Err-Device g c =
           let model : M → HasSlot c.commit.new.source.spots.now → g.E.SectorDisk.keeps_model source.pages.disk =
           λ m has. m (away (subst (λ l. HasSlot l) done.asks.follows.1 has)) in
           commit_failed g.D.SectorDisk g.E.SectorDisk M old _ s after pid addr len mode ch shows same takes
-          (record { directory = done.files; always = done.always; size = done.size; kept = done.kept; either = λ k m now. done.any_moment k (model m) s.files s.durable taken now change })
+          (record {
+            directory = done.files;
+            always = done.always;
+            size = done.size;
+            kept = done.kept;
+            either = λ k m now. done.any_moment k (model m) s.files s.durable taken now change;
+            most_moment = done.most_moment;
+            most_now = λ k. holds_now g.D.SectorDisk (disk_of old.store) (disk_of c.commit.new.self) _ (λ t image le may. g.met.D.SectorDisk.counts_now _ t image k le may) (done.most_moment k);
+          })
           (record { directory = done.files; slots = reads.slots; frames = refl; cache = refl; roots = refl; regions = refl; page_of = refl; clock = refl; refused = refl })
           (device_failed _ _ _ _ c.in-Err-Device.field-0 c.in-Err-Device.field-0-is done.causes);
       ends = search rules;
@@ -158,7 +168,15 @@ returns-in-Err-Source g c =
           let model : M → HasSlot c.commit.new.source.spots.now → g.E.SectorDisk.keeps_model source.pages.disk =
           λ m has. m (away (subst (λ l. HasSlot l) done.asks.follows.1 has)) in
           commit_unread g.D.SectorDisk g.E.SectorDisk M old _ s after pid addr len mode ch shows same takes
-          (record { directory = done.files; always = done.always; size = done.size; kept = done.kept; either = λ k m now. done.any_moment k (model m) s.files s.durable taken now change })
+          (record {
+            directory = done.files;
+            always = done.always;
+            size = done.size;
+            kept = done.kept;
+            either = λ k m now. done.any_moment k (model m) s.files s.durable taken now change;
+            most_moment = done.most_moment;
+            most_now = λ k. holds_now g.D.SectorDisk (disk_of old.store) (disk_of c.commit.new.self) _ (λ t image le may. g.met.D.SectorDisk.counts_now _ t image k le may) (done.most_moment k);
+          })
           (record { directory = done.files; slots = reads.slots; frames = refl; cache = refl; roots = refl; regions = refl; page_of = refl; clock = refl; refused = refl })
           (source_failed _ _ _ _ c.in-Err-Source.field-0 c.in-Err-Source.field-0-is done.causes)
           (store_same (λ x. ShowsPages x s) (picture_of old) (slots_of old.swap) (slots_of source) (directory_of old.store) (directory_of c.commit.new.self) reads.slots done.files shows.pages) sound

@@ -1,11 +1,6 @@
-use Rattle.std.proofs.Common.{◌+◌, ℕ, get_or, length, refl, sym, arith}
+use Rattle.std.proofs.Common.{◌+◌, ℕ, get_or, length, sym, arith}
 use Rattle.pool_journal.proofs.Found.{first_stays, first_here, none_more}
-use Rattle.pool_journal.specs.Pools.{first_among}
 use Rattle.pool_journal.proofs.searches.first_place.Goals as goal
-
-pub loop-place-init : goal.loop-place-init
-unfolding first_among
-loop-place-init c = refl
 
 pub returns-then-numbers-place : goal.returns-then-numbers-place
 returns-then-numbers-place c =

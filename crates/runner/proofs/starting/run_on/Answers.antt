@@ -17,6 +17,7 @@ returns-clause-booted g c = record {
   layout = c.in-Ok.ensures.accepts.layout;
   journal = c.in-Ok.ensures.accepts.journal;
   opening = c.in-Ok.ensures.moments.any_moment;
+  opening_most = c.in-Ok.ensures.moments.most_moment;
   in_a_row = c.in-Ok.ensures.moments.in_a_row;
   asks = c.in-Ok.ensures.accepts.asks;
   outside = c.in-Ok.ensures.accepts.outside;

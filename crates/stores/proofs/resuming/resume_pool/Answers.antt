@@ -1,9 +1,9 @@
-use Rattle.stores.{proofs.{Names.{sym, subst}, PoolOpens.{pool_resumes, pool_refuses_resume}}, specs.Opened.{RefusesToOpen}}
+use Rattle.stores.{proofs.{Names.{sym, subst}, PoolOpens.{pool_resumes, pool_refuses_resume}}, specs.Resumed.{RefusesToResume}}
 use Rattle.stores.proofs.resuming.resume_pool.Goals as goal
 
 pub returns-in-Ok : goal.returns-in-Ok
-returns-in-Ok g c = pool_resumes g.D.SectorDisk c.args.disk c.in-Ok.store c.in-Ok.ensures
+returns-in-Ok g c = pool_resumes g.D.SectorDisk c.args.disk g.met.D.SectorDisk.only_now c.in-Ok.store c.in-Ok.ensures
 
 pub returns-in-Err : goal.returns-in-Err
-returns-in-Err g c = subst (λ fault. RefusesToOpen g.D.SectorDisk c.args.disk fault c.in-Err.disk) (sym c.from.ensures)
-    (pool_refuses_resume g.D.SectorDisk c.args.disk c.requires.marked c.in-Err.fault c.in-Err.disk c.in-Err.ensures)
+returns-in-Err g c = subst (λ fault. RefusesToResume g.D.SectorDisk c.args.disk fault c.in-Err.disk) (sym c.from.ensures)
+    (pool_refuses_resume g.D.SectorDisk c.args.disk g.met.D.SectorDisk.only_now c.requires.marked c.in-Err.fault c.in-Err.disk c.in-Err.ensures)

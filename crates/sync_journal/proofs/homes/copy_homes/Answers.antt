@@ -1,4 +1,4 @@
-use Rattle.sync_journal.{proofs.{Names.{length, rules, once_still}, Runs.{and_no_write}}, specs.{Layout.{IsHomeFrom}, Standing.{IsCopyFrom}}}
+use Rattle.sync_journal.{proofs.{Names.{length, rules, once_still}, Runs.{and_no_write}}, specs.{Layout.{IsHomeSector, IsCopied}}}
 use Rattle.sync_journal.proofs.homes.copy_homes.Goals as goal
 
 pub returns : goal.returns
@@ -13,8 +13,8 @@ returns g c =
       synced = s.synced;
       writes = record {
         done = search rules;
-        run = and_no_write d (IsHomeFrom c.args.first c.args.homes.now) old mid new copied.run s.size s.kept s.cause.later s.same s.unsynced s.time;
-        once = once_still (IsCopyFrom c.args.body c.args.first c.args.homes.now c.args.but.now (length c.args.homes.now)) (d.asked old) (d.asked mid) (d.asked new) copied.once s.asks;
+        run = and_no_write d (IsHomeSector c.args.homes.now) old mid new copied.run s.size s.kept s.cause.later s.same s.unsynced s.time;
+        once = once_still (IsCopied c.args.homes.now (length c.args.homes.now)) (d.asked old) (d.asked mid) (d.asked new) copied.once s.asks;
         failed = search rules;
         calm = search rules;
       };

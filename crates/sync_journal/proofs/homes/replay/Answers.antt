@@ -1,5 +1,5 @@
-use Rattle.sync_journal.proofs.{Asking.{finish_asks}, Copies.{in_copied}, Gates.{closed}, Names.{[], length, inl, inr, rules, once_wider}, Replays.{while_copying, while_closing, settled, on_ok_both}, Runs.{one_more, of_more}}
-use Rattle.sync_journal.specs.{Layout.{IsGate, IsHomeSector, IsReplayed, IsFinished}, Standing.{IsCopyFrom}}
+use Rattle.sync_journal.proofs.{Asking.{finish_asks}, Gates.{closed}, Names.{length, inl, inr, rules, once_wider}, Replays.{while_copying, while_closing, settled, on_ok_both}, Runs.{one_more, of_more}}
+use Rattle.sync_journal.specs.{Layout.{IsGate, IsHomeSector, IsCopied, IsReplayed, IsFinished}}
 use Rattle.sync_journal.proofs.homes.replay.Goals as goal
 
 pub returns-in_err-copy_homes-clause-home : goal.returns-in_err-copy_homes-clause-home
@@ -8,8 +8,8 @@ returns-in_err-copy_homes-clause-home g c =
       writes = record {
         done = search rules;
         run = of_more g.D.SectorDisk (IsHomeSector c.args.homes.now) (IsReplayed c.args.homes.now) c.args.disk.now c.copy_homes.new.disk (λ k at_home. inr at_home) c.copy_homes.ensures.run;
-        once = once_wider (IsCopyFrom 11 8195 c.args.homes.now [] (length c.args.homes.now)) (IsFinished c.args.homes.now) (g.D.SectorDisk.asked c.args.disk.now) (g.D.SectorDisk.asked c.copy_homes.new.disk)
-            (λ k copied. inr (in_copied c.args.homes.now (length c.args.homes.now) k copied)) c.copy_homes.ensures.once;
+        once = once_wider (IsCopied c.args.homes.now (length c.args.homes.now)) (IsFinished c.args.homes.now) (g.D.SectorDisk.asked c.args.disk.now) (g.D.SectorDisk.asked c.copy_homes.new.disk)
+            (λ k copied. inr copied) c.copy_homes.ensures.once;
         failed = search rules;
         calm = search rules;
       };
@@ -31,7 +31,7 @@ returns-clause-home g c =
             (of_more g.D.SectorDisk (IsHomeSector c.args.homes.now) (IsReplayed c.args.homes.now) c.args.disk.now c.copy_homes.new.disk (λ k at_home. inr at_home) c.copy_homes.ensures.run)
             (of_more g.D.SectorDisk IsGate (IsReplayed c.args.homes.now) c.copy_homes.new.disk c.close_gate.new.disk (λ k gate. inl gate) c.close_gate.ensures.run);
         once = finish_asks (g.D.SectorDisk.asked c.args.disk.now) (g.D.SectorDisk.asked c.copy_homes.new.disk) (g.D.SectorDisk.asked c.close_gate.new.disk)
-            c.args.homes.now c.requires.homes.few c.copy_homes.ensures.once c.close_gate.ensures.once;
+            c.args.homes.now c.copy_homes.ensures.once c.close_gate.ensures.once;
         failed = search rules;
         calm = search rules;
       };

@@ -1,4 +1,4 @@
-use Rattle.sync_plans.proofs.{Made.{Begins, LeavesLayout, few, full_list, stands_now, plan, ends, stop}, Names.{ℕ, ◌≡◌, List, IfErr, length, inr, refl, sym, ap, subst, ◌∙◌, min, arith, rules, Image, ArePages, StandsFor, StandsForEither, file_info, free_pages}, Runs.{refuses_image}, Theorem.{as_given}}
+use Rattle.sync_plans.proofs.{Made.{Begins, LeavesLayout, few, full_list, stands_now, plan, ends, stop}, Names.{ℕ, ◌≡◌, List, IfErr, length, inr, refl, sym, ap, subst, ◌∙◌, min, arith, rules, Image, ArePages, StandsFor, StandsForEither, file_info, capacity_pages}, Runs.{refuses_image}, Theorem.{as_given}}
 use Rattle.sync_plans.specs.{Pages.{lent_page}, PlanDisk.{content_of}, Plans.{row, room_of, image_after}, Requests.{IsStore, KeepsOutside, AreWritable, AreReadOnly, RefusesImage}}
 use Rattle.sync_plans.proofs.planning.plan_commit.Goals as goal
 
@@ -90,6 +90,6 @@ returns-in-Ok-clause-commits c =
 pub returns-in-Err-clause-refused : goal.returns-in-Err-clause-refused
 returns-in-Err-clause-refused c =
     let d0 = c.new-disk.result in
-    rw c.in-Err.is at (as_given d0 c.args.image.now (λ sectors image. IfErr c.commit-disk.result.1 (RefusesImage sectors image (ArePages (file_info sectors image) 1 (free_pages sectors image) c.args.updates.pages.now → ⊥) (AreReadOnly sectors image c.args.updates.pages.now)))
+    rw c.in-Err.is at (as_given d0 c.args.image.now (λ sectors image. IfErr c.commit-disk.result.1 (RefusesImage sectors image (ArePages (file_info sectors image) (capacity_pages sectors image) c.args.updates.pages.now → ⊥) (AreReadOnly sectors image c.args.updates.pages.now)))
     c.new-disk.ensures.image c.new-disk.ensures.used
     (refuses_image _ d0 c.commit-disk.result.0 c.commit-disk.result.1 tt (λ bad. bad tt) (λ denied. denied tt) c.commit-disk.ensures.refused))

@@ -1,4 +1,4 @@
-use Rattle.sync_plans.proofs.{Made.{Begins, LeavesLayout, few, full_list, stands_now, plan, ends, stop}, Names.{ℕ, ◌≡◌, false, List, [], IfErr, length, ⊎_elim, sym, ap, subst, ◌∙◌, min, arith, rules, Image, StandsFor, is_pool, IsClosed}, Runs.{refuses_image}, Theorem.{as_given}}
+use Rattle.sync_plans.proofs.{Made.{Begins, LeavesLayout, few, full_list, stands_now, plan, ends, stop}, Names.{ℕ, ◌≡◌, true, false, not, List, [], IfErr, length, ⊎_elim, sym, ap, subst, ◌∙◌, min, arith, rules, Image, StandsFor, is_pool, pool_named, IsClosed}, Runs.{refuses_image}, Theorem.{as_given}}
 use Rattle.sync_plans.specs.{Pages.{lent_page}, PlanDisk.{content_of}, Plans.{row, room_of}, Requests.{IsStore, KeepsOutside, RefusesImage}}
 use Rattle.sync_plans.proofs.planning.plan_open.Goals as goal
 
@@ -71,16 +71,20 @@ returns-in-Ok-clause-opens c =
     let store = as_given d0 c.args.image.now (λ sectors first. IsStore sectors first) begins.given begins.used opens.store in
     let end = ends c.args.image.now (lent_page []) room d0 d begins runs c.copy_to.new.calls c.copy_to.new.rows c.copy_to.ensures.all c.copy_to.ensures.sources c.copy_to.ensures.calls c.copy_to.ensures.rows store in
     record {
-      store = store;
-      plan = plan c.args.image.now (lent_page []) room d0 d begins runs c.copy_to.new.calls c.copy_to.new.rows c.copy_to.ensures.all c.copy_to.ensures.sources c.copy_to.ensures.calls c.copy_to.ensures.rows store opens.synced;
-      any_moment = λ files before stands left within.
-          let now = stands_now c.args.image.now (lent_page []) room d0 d begins files before stands in
-          subst (λ (xs : List (List ℕ)). StandsFor (length xs) files before left) begins.given
-          (⊎_elim (λ s. s) (λ s. s) ((c.open-disk.ensures.any_moment tt files before now).each left (stop c.args.image.now (lent_page []) room d0 d begins runs c.copy_to.new.calls c.copy_to.new.rows c.copy_to.ensures.all c.copy_to.ensures.sources c.copy_to.ensures.calls c.copy_to.ensures.rows store left within)));
+      keeps = record {
+        store = store;
+        plan = plan c.args.image.now (lent_page []) room d0 d begins runs c.copy_to.new.calls c.copy_to.new.rows c.copy_to.ensures.all c.copy_to.ensures.sources c.copy_to.ensures.calls c.copy_to.ensures.rows store opens.synced;
+        any_moment = λ files before stands left within.
+            let now = stands_now c.args.image.now (lent_page []) room d0 d begins files before stands in
+            subst (λ (xs : List (List ℕ)). StandsFor (length xs) files before left) begins.given
+            (⊎_elim (λ s. s) (λ s. s) ((c.open-disk.ensures.any_moment tt files before now).each left (stop c.args.image.now (lent_page []) room d0 d begins runs c.copy_to.new.calls c.copy_to.new.rows c.copy_to.ensures.all c.copy_to.ensures.sources c.copy_to.ensures.calls c.copy_to.ensures.rows store left within)));
+        outside = subst (λ (i : Image). KeepsOutside (length c.args.image.now) (row c.args.image.now) i) (sym end)
+            (as_given d0 c.args.image.now (λ sectors first. KeepsOutside sectors first (content_of d)) begins.given begins.used opens.outside);
+      };
       closed = subst (λ (i : Image). is_pool (row c.args.image.now) ≡ false → IsClosed (length c.args.image.now) i) (sym end)
           (as_given d0 c.args.image.now (λ sectors first. is_pool first ≡ false → IsClosed sectors (content_of d)) begins.given begins.used opens.closed);
-      outside = subst (λ (i : Image). KeepsOutside (length c.args.image.now) (row c.args.image.now) i) (sym end)
-          (as_given d0 c.args.image.now (λ sectors first. KeepsOutside sectors first (content_of d)) begins.given begins.used opens.outside);
+      anew = subst (λ (i : Image). is_pool (row c.args.image.now) ≡ true → (IsClosed (length c.args.image.now) (row c.args.image.now) → ⊥) → pool_named i ≡ not (pool_named (row c.args.image.now))) (sym end)
+          (as_given d0 c.args.image.now (λ sectors first. is_pool first ≡ true → (IsClosed sectors first → ⊥) → pool_named (content_of d) ≡ not (pool_named first)) begins.given begins.used opens.anew);
     }
 
 pub returns-in-Err-clause-refused : goal.returns-in-Err-clause-refused

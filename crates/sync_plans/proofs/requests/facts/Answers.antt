@@ -11,4 +11,4 @@ returns-in-Ok-clause-store g c = λ k. found_store g.D.SectorDisk c.args.disk c.
 pub returns-in-Err-clause-refused : goal.returns-in-Err-clause-refused
 returns-in-Err-clause-refused g c =
     let u = c.unopened.ensures in
-    told_so g.D.SectorDisk c.args.disk _ _ c.unopened.result c.in-Err.ensures u.device u.layout u.journal u.memory u.pages u.read_only
+    told_so g.D.SectorDisk c.args.disk _ _ c.unopened.result c.in-Err.ensures.refused u.device u.layout u.journal u.memory u.pages u.read_only

@@ -1,4 +1,4 @@
-use Rattle.sync_plans.{proofs.{Names.{inl, sym, subst, LeavesOnly, weaker, StandsFor, StandsForEither, disk_of}, Runs.{while_opening, told_so, stays_found, stays_refused}}, specs.Requests.{OpensStore, StaysStore}}
+use Rattle.sync_plans.{proofs.{Names.{inl, sym, subst, LeavesOnly, weaker, StandsFor, StandsForEither, disk_of}, Runs.{opened_anew, while_opening, told_so, stays_found, stays_refused}}, specs.Requests.{OpensStore, StaysStore}}
 use Rattle.sync_plans.proofs.requests.open.Goals as goal
 
 pub returns-in-Ok-clause-stays : goal.returns-in-Ok-clause-stays
@@ -35,6 +35,7 @@ returns-in-Ok-clause-opens g c = λ k.
     subst (λ d. OpensStore disk c.args.disk d) (sym c.into_disk.ensures) (record {
       store = record { layout = c.in-Ok.ensures.good_layout k1; journal = c.in-Ok.ensures.good_journal k1 };
       closed = c.in-Ok.ensures.emptied k1;
+      anew = opened_anew disk c.args.disk c.in-Ok.store c.in-Ok.ensures k1;
       synced = c.in-Ok.ensures.synced k1;
       outside = c.in-Ok.ensures.run.outside k1;
     })

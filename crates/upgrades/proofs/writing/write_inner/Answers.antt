@@ -1,9 +1,8 @@
 use Rattle.upgrades.proofs.Names.{◌≡◌, ℕ, ⊎_elim, inl, inr, refl, arith, on_ok_weaker, once_none, once_wider}
 use Rattle.file_store.proofs.{Copied.{copies_unwritten}, Making.{makes_of}}
-use Rattle.file_store.specs.Store.{entry_of}
 use Rattle.pool_store.{proofs.{Formats.{head_low}, Making.{has_pool, made_once}}, specs.Format.{IsHomeSector, IsInnerSector, new_pages}}
-use Rattle.upgrades.proofs.{Copies.{copies_later}, Old.{stays_same}, Tables.{tables_move}}
-use Rattle.upgrades.specs.{NewPool.{IsTableSector, files_in, first_of, pages_before}, Old.{IsFilePlace, directory_of, disk_of, place_of}}
+use Rattle.upgrades.proofs.{Copies.{copies_later}, Old.{not_run}, Tables.{tables_move}}
+use Rattle.upgrades.specs.{NewPool.{IsTableSector, files_in, first_of, pages_before}, Old.{IsOldPage}}
 use Rattle.upgrades.proofs.writing.write_inner.Goals as goal
 
 pub copy_files-requires-clause-pool : goal.copy_files-requires-clause-pool
@@ -12,12 +11,10 @@ copy_files-requires-clause-pool g c = has_pool g.E.SectorDisk c.args.sizes c.arg
 pub returns-in_err-write_tables-clause-copies : goal.returns-in_err-write_tables-clause-copies
 returns-in_err-write_tables-clause-copies g c =
     let d = g.D.SectorDisk in let n = g.E.SectorDisk in let m = c.args.sizes.blocks in let w = c.write_tables.ensures in let old = c.args.old.now in
-    let All = IsInnerSector m (pages_before (files_in c.args.files.now) 64) in let Read = IsFilePlace (place_of old) (entry_of (directory_of old)) 64 in
-    let stays = stays_same d old c.requires.ready in
+    let All = IsInnerSector m (pages_before (files_in c.args.files.now) 64) in let Read = IsOldPage (g.D.SectorDisk.content old) in
     let more : (k : ℕ) → IsTableSector m k → All k = λ k. ⊎_elim (λ head. inl head) (λ home. inr (home.0, omega (arith, home.1))) in
     record {
-      stays = stays;
-      copies = copies_unwritten d n Read All (disk_of old) (disk_of old) c.args.new.now c.write_tables.new.new stays.run (λ k. once_none Read _ _ (λ s. refl))
+      copies = copies_unwritten d n Read All old old c.args.new.now c.write_tables.new.new (not_run d old) (λ k. once_none Read _ _ (λ s. refl))
           (makes_of n (IsTableSector m) All c.args.new.now c.write_tables.new.new more (made_once n (IsTableSector m) c.args.new.now c.write_tables.new.new w.run w.once))
           c.from_residual.result c.from_residual.ensures.1 refl (c.in_err-write_tables.ensures.failed refl);
       once = once_wider (IsTableSector m) All _ _ more w.once;
@@ -27,7 +24,7 @@ pub returns-clause-copies : goal.returns-clause-copies
 returns-clause-copies g c =
     let d = g.D.SectorDisk in let n = g.E.SectorDisk in let m = c.args.sizes.blocks in let w = c.write_tables.ensures in let old = c.args.old.now in
     let files = files_in c.args.files.now in let All = IsInnerSector m (pages_before files 64) in
-    copies_later d n (IsFilePlace (place_of old) (entry_of (directory_of old)) 64) (IsTableSector m) (IsHomeSector m new_pages (first_of files 64)) All old c.copy_files.new.old c.args.new.now c.write_tables.new.new c.copy_files.new.new
+    copies_later d n (IsOldPage (g.D.SectorDisk.content old)) (IsTableSector m) (IsHomeSector m new_pages (first_of files 64)) All old c.copy_files.new.old c.args.new.now c.write_tables.new.new c.copy_files.new.new
     c.copy_files.result (λ k. ⊎_elim (λ head. inl head) (λ home. inr (home.0, omega (arith, home.1)))) (λ k home. inr (omega (arith, home.0), home.1))
     (λ k front home. ⊎_elim (λ head. let low = head_low m k c.requires.pool.sized.0 head in omega (arith, low.1, home.0)) (λ first. omega (arith, first.1, home.0)) front)
     (made_once n (IsTableSector m) c.args.new.now c.write_tables.new.new w.run w.once) w.once c.in_ok-write_tables.ensures.calm c.copy_files.ensures.copies

@@ -1,18 +1,17 @@
-use Rattle.file_store.proofs.Names.{◌<◌, sym, ap, subst, ◌∙◌, rules, journal_kind, kind_home_count, joined, asks_named}
+use Rattle.file_store.proofs.Names.{◌<◌, sym, ap, subst, ◌∙◌, rules, home_count, joined, asks_named}
 use Rattle.file_store.{specs.{Standing.{standing}, Store.{entry_of, IsSectorOf}}, proofs.{Asking.{page_once}, Homes.{entry_page, home_inside, home_of-entry}, Images.{page_read}}}
 use Rattle.file_store.proofs.store.FileStore.read_page.Goals as goal
 
 pub home_of-requires : goal.home_of-requires
-home_of-requires g c = entry_page (journal_kind c.args.self.now.journal) (g.D.SectorDisk.sector_count c.args.self.now.disk) c.args.self.now.directory c.requires.ready.sound c.args.page c.requires.inside
+home_of-requires g c = entry_page (g.D.SectorDisk.sector_count c.args.self.now.disk) c.args.self.now.directory c.requires.ready.sound c.args.page c.requires.inside
 
 pub read-requires-clause-home : goal.read-requires-clause-home
 read-requires-clause-home g c =
-    let kind = journal_kind c.args.self.now.journal in
     let sectors = g.D.SectorDisk.sector_count c.args.self.now.disk in
     let directory = c.args.self.now.directory in
-    let at = entry_page kind sectors directory c.requires.ready.sound c.args.page c.requires.inside in
-    subst (λ h. h < kind_home_count kind sectors) (sym (c.home_of.ensures ∙ home_of-entry directory c.args.page at.entry at.is))
-    (home_inside kind sectors directory c.requires.ready.sound c.args.page at)
+    let at = entry_page sectors directory c.requires.ready.sound c.args.page c.requires.inside in
+    subst (λ h. h < home_count sectors) (sym (c.home_of.ensures ∙ home_of-entry directory c.args.page at.entry at.is))
+    (home_inside sectors directory c.requires.ready.sound c.args.page at)
 
 pub returns-in_err-read : goal.returns-in_err-read
 returns-in_err-read g c = record {

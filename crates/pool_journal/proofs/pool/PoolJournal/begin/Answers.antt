@@ -28,8 +28,8 @@ returns c = record {
     map = c.requires.is.map;
     next = long;
     homes = c.requires.is.homes;
+    counted = c.requires.is.counted;
     room = c.requires.is.room;
-    listed = c.requires.is.listed;
   };
   sizes = refl;
   second = refl;

@@ -1,6 +1,6 @@
 use Rattle.std.proofs.Common.{◌*◌, ◌∙◌, refl, sym, ap, subst, arith, rules, inl}
 use Rattle.disk_model.proofs.{Moments.{asks_none, asks_wider}, Naming.{once_none, once_wider}}
-use Rattle.pool_journal.proofs.{Counted.{none_live, not_full}, Room.{alike, but_most, thin_loose, copied_moved, thin_full, thin_single}, Thinned.{kept, copied, none_had}}
+use Rattle.pool_journal.proofs.{Counted.{none_live, not_full}, Room.{alike, but_most, thin_loose, thin_moved, thin_full, thin_single}, Thinned.{kept, copied, none_had}}
 use Rattle.pool_journal.specs.{Commit.{thinned, IsDropped}, Copying.{IsCopiedHome, HoldsHomes}, Maps.{entries_of}, Pools.{IsLooseHome, IsSingle}}
 use Rattle.sync_journal.proofs.Runs.{of_more}
 use Rattle.pool_journal.proofs.pool.PoolJournal.make_room.Goals as goal
@@ -28,9 +28,9 @@ returns-in_err-copy_home g c =
       run = of_more d (IsLooseHome c.begin.new.self.sizes.blocks thin) (IsLooseHome m (thinned homes was)) old new
           (λ k home. thin_loose m was thin homes begins.next k (subst (λ b. IsLooseHome b thin k) size home)) w.run;
       asks = asks_wider d (IsCopiedHome c.begin.new.self.sizes.blocks thin) (IsDropped m was homes) old new
-          (λ k there. (full, copied_moved m was thin homes begins.next k (subst (λ b. IsCopiedHome b thin k) size there))) w.asks;
+          (λ k there. (full, thin_moved m was thin homes begins.next k (subst (λ b. IsCopiedHome b thin k) size there))) w.asks;
       once = λ single. once_wider (IsCopiedHome c.begin.new.self.sizes.blocks thin) (IsDropped m was homes) (d.asked old) (d.asked new)
-          (λ k there. (full, copied_moved m was thin homes begins.next k (subst (λ b. IsCopiedHome b thin k) size there)))
+          (λ k there. (full, thin_moved m was thin homes begins.next k (subst (λ b. IsCopiedHome b thin k) size there)))
           (w.once (subst (λ b. IsSingle b thin) (sym size) (thin_single m was thin homes begins.next single)));
       failed = λ is. c.in_err-copy_home.ensures.failed refl;
       calm = search rules;
@@ -62,8 +62,8 @@ returns-in_ok-copy_home g c =
           map = begins.is.map;
           next = c.clear.ensures.size _ begins.is.next;
           homes = begins.is.homes;
+          counted = begins.is.counted;
           room = begins.is.room;
-          listed = begins.is.listed;
         };
         sizes = begins.sizes;
         second = begins.second;
@@ -73,9 +73,9 @@ returns-in_ok-copy_home g c =
       run = of_more d (IsLooseHome c.begin.new.self.sizes.blocks thin) (IsLooseHome m (thinned homes was)) old new
           (λ k home. thin_loose m was thin homes begins.next k (subst (λ b. IsLooseHome b thin k) size home)) w.run;
       asks = asks_wider d (IsCopiedHome c.begin.new.self.sizes.blocks thin) (IsDropped m was homes) old new
-          (λ k there. (full, copied_moved m was thin homes begins.next k (subst (λ b. IsCopiedHome b thin k) size there))) w.asks;
+          (λ k there. (full, thin_moved m was thin homes begins.next k (subst (λ b. IsCopiedHome b thin k) size there))) w.asks;
       once = λ single. once_wider (IsCopiedHome c.begin.new.self.sizes.blocks thin) (IsDropped m was homes) (d.asked old) (d.asked new)
-          (λ k there. (full, copied_moved m was thin homes begins.next k (subst (λ b. IsCopiedHome b thin k) size there)))
+          (λ k there. (full, thin_moved m was thin homes begins.next k (subst (λ b. IsCopiedHome b thin k) size there)))
           (w.once (subst (λ b. IsSingle b thin) (sym size) (thin_single m was thin homes begins.next single)));
       failed = λ is. cc;
       calm = w.calm;

@@ -48,7 +48,7 @@ returns-in_err-read_map g c =
           (pool_counted sizes.blocks (pool_named (d.content old)) (d.content old)) first.asks
           (subst (λ (image : Image). NamesOnce (IsCountedMap sizes.blocks (pool_named (d.content old)) (pool_counted sizes.blocks (pool_named (d.content old)) image)) (d.asked mid) (d.asked new)) (same_image d old mid (first.reads.run.touches before))
           (subst (λ b. NamesOnce (IsCountedMap sizes.blocks b (pool_counted sizes.blocks b (d.content mid))) (d.asked mid) (d.asked new)) (first.named before) (w.once keeps))));
-      is = record { sized = c.requires.is.sized; map = c.requires.is.map; next = w.fits; homes = c.requires.is.homes; room = c.requires.is.room; listed = c.requires.is.listed };
+      is = record { sized = c.requires.is.sized; map = c.requires.is.map; next = w.fits; homes = c.requires.is.homes; counted = c.requires.is.counted; room = c.requires.is.room };
       sizes = refl;
     }
 

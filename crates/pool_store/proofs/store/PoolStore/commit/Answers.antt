@@ -18,17 +18,13 @@ place-requires-clause-room g c =
 
 pub slice_bounds-source-end : goal.slice_bounds-source-end
 slice_bounds-source-end g c =
-    let most = free_most c.args.self.now.journal.sizes.blocks (entries_of c.args.self.now.journal.map) in
-    let few = c.requires.pages.few in
     let same = ap (λ xs. length xs) c.deref.ensures.value in
-    sym (length-take-le (length c.args.pages.now) c.deref.result.now (omega (arith, most, few, same, c.place.ensures.room.0, c.requires.ready.room.0)))
+    sym (length-take-le (length c.args.pages.now) c.deref.result.now (omega (arith, same, c.place.ensures.long.0)))
 
 pub slice_bounds-commit-end : goal.slice_bounds-commit-end
 slice_bounds-commit-end g c =
-    let most = free_most c.args.self.now.journal.sizes.blocks (entries_of c.args.self.now.journal.map) in
-    let few = c.requires.pages.few in
     let same = ap (λ xs. length xs) c.deref-2.ensures.value in
-    sym (length-take-le (length c.args.pages.now) c.deref-2.result.now (omega (arith, most, few, same, c.place.ensures.room.1, c.requires.ready.room.1)))
+    sym (length-take-le (length c.args.pages.now) c.deref-2.result.now (omega (arith, same, c.place.ensures.long.1)))
 
 pub commit-requires-clause-given : goal.commit-requires-clause-given
 commit-requires-clause-given g c =

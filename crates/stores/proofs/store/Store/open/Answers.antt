@@ -12,7 +12,7 @@ returns-in-Ok-true g c =
 
 pub returns-in-Ok-false : goal.returns-in-Ok-false
 returns-in-Ok-false g c =
-    since_look g.D.SectorDisk c.args.disk g.met.D.SectorDisk.only_now c.in-Ok-false.field-0 c.has_pool.new.disk c.in-Ok-false.ensures c.open_journals.result c.open_journals.ensures
+    since_look g.D.SectorDisk c.args.disk g.met.D.SectorDisk.only_now c.in-Ok-false.field-0 c.has_pool.new.disk c.in-Ok-false.ensures c.open_journal.result c.open_journal.ensures
 
 pub returns-in-Err : goal.returns-in-Err
 returns-in-Err g c = subst (λ fault. RefusesToOpen g.D.SectorDisk c.args.disk fault c.has_pool.new.disk) (sym c.from.ensures)

@@ -1,13 +1,13 @@
 use Rattle.stores.proofs.{Names.{sym, subst}, PagesRead.{kind_page, pool_page}}
 use Rattle.{file_store.specs.Standing.{IsPageOf}, stores.specs.Store.{files_of, IsReadyStore, ReadsFilePage}}
-use Rattle.stores.specs.declared.store.Store.TheVariants.{Journals, Pool}
+use Rattle.stores.specs.declared.store.Store.TheVariants.{Journal, Pool}
 use Rattle.stores.proofs.store.Store.read_page.Goals as goal
 
 pub read_page-requires-clause-ready : goal.read_page-requires-clause-ready
-read_page-requires-clause-ready g c = (subst (IsReadyStore g.D.SectorDisk) c.in-Journals.is c.requires.ready).0
+read_page-requires-clause-ready g c = (subst (IsReadyStore g.D.SectorDisk) c.in-Journal.is c.requires.ready).0
 
 pub read_page-requires-clause-inside : goal.read_page-requires-clause-inside
-read_page-requires-clause-inside g c = subst (λ store. IsPageOf (files_of store) c.args.page.file c.args.page.page) c.in-Journals.is c.requires.inside
+read_page-requires-clause-inside g c = subst (λ store. IsPageOf (files_of store) c.args.page.file c.args.page.page) c.in-Journal.is c.requires.inside
 
 pub read_page-requires-in-Pool-clause-ready : goal.read_page-requires-in-Pool-clause-ready
 read_page-requires-in-Pool-clause-ready g c = subst (IsReadyStore g.D.SectorDisk) c.in-Pool.is c.requires.ready
@@ -15,12 +15,12 @@ read_page-requires-in-Pool-clause-ready g c = subst (IsReadyStore g.D.SectorDisk
 pub read_page-requires-in-Pool-clause-inside : goal.read_page-requires-in-Pool-clause-inside
 read_page-requires-in-Pool-clause-inside g c = subst (λ store. IsPageOf (files_of store) c.args.page.file c.args.page.page) c.in-Pool.is c.requires.inside
 
-pub returns-in-Journals : goal.returns-in-Journals
-returns-in-Journals g c =
+pub returns-in-Journal : goal.returns-in-Journal
+returns-in-Journal g c =
     let d = g.D.SectorDisk in
     let after = c.read_page in
-    subst (λ old. ReadsFilePage d old (Journals after.new.self) c.args.page after.new.to after.result) (sym c.in-Journals.is)
-    (kind_page d c.args.page after.new.to after.result c.in-Journals.store after.new.self (subst (IsReadyStore d) c.in-Journals.is c.requires.ready) after.ensures)
+    subst (λ old. ReadsFilePage d old (Journal after.new.self) c.args.page after.new.to after.result) (sym c.in-Journal.is)
+    (kind_page d c.args.page after.new.to after.result c.in-Journal.store after.new.self (subst (IsReadyStore d) c.in-Journal.is c.requires.ready) after.ensures)
 
 pub returns-in-Pool : goal.returns-in-Pool
 returns-in-Pool g c =

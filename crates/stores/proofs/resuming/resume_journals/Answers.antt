@@ -1,9 +1,0 @@
-use Rattle.stores.{proofs.{Names.{sym, subst}, KindOpens.{resumes, refuses_resume}}, specs.Opened.{RefusesToOpen}}
-use Rattle.stores.proofs.resuming.resume_journals.Goals as goal
-
-pub returns-in-Ok : goal.returns-in-Ok
-returns-in-Ok g c = resumes g.D.SectorDisk c.args.disk c.requires.unmarked c.in-Ok.store c.in-Ok.ensures.run c.in-Ok.ensures.ok
-
-pub returns-in-Err : goal.returns-in-Err
-returns-in-Err g c = subst (λ fault. RefusesToOpen g.D.SectorDisk c.args.disk fault c.in-Err.disk) (sym c.from.ensures)
-    (refuses_resume g.D.SectorDisk c.args.disk c.requires.unmarked c.in-Err.fault c.in-Err.disk c.in-Err.ensures.err_run c.in-Err.ensures.err)
