@@ -4,11 +4,11 @@
 const KefsFile = (() => {
   const PAGE = 4096, SECTOR = 512, CALL = 24, UNIT = 65536; // bytes, of a call of a plan and of a page of WebAssembly's memory too
   const JOURNAL = 1023, ROOM = 16384, HEAP = 1 << 20; // pages that the journal of layout 2 takes; calls of a plan over it; bytes that a call of the module may ask for
-  // Of layout 4, whose maps have blocks: slots of a block in each of two bodies, the numbers before these, sectors of map and body; calls of a plan and bytes asked for; pages of its directory.
-  const SLOTS = 504, HEAD = 16, HALF = 4040, ROOM_OF_BLOCK = 8192, HEAP_OF_BLOCK = 1 << 16, DIRECTORY = 4;
-  const GATE = 8, FRONT = 16, ENTRY = 256, MOST_BLOCKS = 2048; // sectors; bytes of an entry; blocks of a map
+  // Of layout 4, whose maps have blocks: slots of a block in each of two bodies, sectors of map and body; calls of a plan and bytes asked for; pages of its directory.
+  const SLOTS = 504, HALF = 4040, ROOM_OF_BLOCK = 8192, HEAP_OF_BLOCK = 1 << 16, DIRECTORY = 4;
+  const FRONT = 16, ENTRY = 256, MOST_BLOCKS = 2048; // sectors; bytes of an entry; blocks of a map
   const POOL = 4032; // slots of a new image where no other number is given: 16.6 MB
-  const MARK = "FAMSYNC4", OLD = "FAMSYNC3", OPEN = "GATEOPEN";
+  const MARK = "FAMSYNC4", OLD = "FAMSYNC3";
   const KINDS = { write: 1, sync: 2, lent: 3, copy: 4 };
   const RESULTS = ["ok", "another call's turn", "the file has no layout of a store", "its journal has a map that no commit writes",
     "no such pages: none, more than the store takes, one twice, or one outside of its file", "the file of a page may only be read", "the plan has too many calls", "there is no memory for the pool's map"];
@@ -155,29 +155,10 @@ const KefsFile = (() => {
       new Uint8Array(this.library.memory.buffer).copyWithin(this.image + SECTOR * sector, bytes.byteOffset, bytes.byteOffset + bytes.length);
     }
 
-    // How many pages the journal takes, or how many slots the named map of the pool gives to no home. Its blocks lie with the last one first; block 0 says how many count.
-    free() {
-      if (this.blocks === 0) return JOURNAL;
-      const isOpen = begins(this.bytes(this.image + SECTOR * GATE, SECTOR), 0, OPEN.repeat(SECTOR / OPEN.length)), homes = Math.floor((this.size / SECTOR - homesOf(this.blocks)) * SECTOR / PAGE);
-      const map = this.image + SECTOR * (FRONT + HALF * this.blocks * (isOpen ? 1 : 0)), numbers = (q) => new Uint32Array(this.library.memory.buffer, map + PAGE * (this.blocks - 1 - q), PAGE / 4);
-      const counted = Math.min(numbers(0)[0], this.blocks);
-      let free = this.slots;
-      for (let q = 0; q < counted; q += 1) free -= numbers(q).subarray(HEAD).reduce((sum, it) => sum + (it !== 0 && it <= homes), 0);
-      return free;
-    }
-
-    // Makes pages durable, all of them or none, each { file, page, bytes }, of 4,096 bytes. It returns when they are. A pool takes half of its slots at any time, and more where more are free.
+    // Makes pages durable, all of them or none, each { file, page, bytes }, of 4,096 bytes. It returns when they are. A pool takes as many as it has slots; where fewer
+    // are free, the plan begins by bringing home all pages that stand in slots. Pages in the order of their files are planned faster.
     commit(updates) {
-      if (this.free() < Math.min(updates.length, this.slots / 2)) this.makeRoom(updates[0].file);
-      this.commitAll(updates);
-    }
-
-    // Commits a page as it is durable: with over half of the slots live, that copies all other pages home, and gives their slots back.
-    makeRoom(file) { this.commitAll([{ file, page: 0, bytes: this.read(file, 0) }]); }
-
-    // Pages in the order of their files are planned faster. One that takes all slots would leave none for the next one.
-    commitAll(updates) {
-      if (updates.length > this.slots - (this.blocks > 0 ? 1 : 0)) throw new Error(RESULTS[4]);
+      if (updates.length > this.slots) throw new Error(RESULTS[4]);
       [...updates].sort((a, b) => a.file - b.file || a.page - b.page).forEach(({ file, page, bytes }, n) => {
         const view = this.view();
         view.setUint8(this.pages + 8 * n, file);

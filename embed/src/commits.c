@@ -290,7 +290,7 @@ int tidy(struct kefs_image *image) {
   return result == KEFS_OK ? make_calls(image, &handle) : result;
 }
 
-int make_room_for(struct kefs_image *image, size_t pages) { return pages > free_places(image) ? tidy(image) : KEFS_OK; }
+int make_room_for(struct kefs_image *image, size_t pages) { return has_free_places(image, pages) ? KEFS_OK : tidy(image); }
 
 /* Where the device has no room, as a file system may find out late, the image is recovered at once and goes on, with the pages still
    dirty. Should that fail too, it stays halted. */

@@ -225,7 +225,7 @@ static int make_call(struct kefs_image *image, size_t call, struct iovec *parts,
 int carry_out(struct kefs_image *image) {
   const struct plan *plan = &image->plan;
   struct iovec parts[MOST_PARTS];
-  forget_places(image);
+  change_places(image, image->planned->count);
   for (size_t i = 0; i < plan->used;) {
     int count = 0, is_sync = plan->calls[i].kind == FAMSYNC_SYNC;
     size_t made = is_sync ? 1 : gather(image, i, parts, &count), bytes = length_of(parts, count);

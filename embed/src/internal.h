@@ -15,10 +15,10 @@ enum { PAGE = KEFS_PAGE, SECTOR = 512 };
 
 /* A home page that stands elsewhere, in a journal or in a slot of a pool: the first of the eight sectors that it has there. */
 struct place { uint32_t home, sector; };
-/* Such pages, by their homes where they are sorted, and how many places of journal or pool they take: there a home may have two. */
+/* Such pages, by their homes where they are sorted, and how many places of journal or pool they take, `most` at the most: there a home may have two. */
 struct places {
   struct place *list, *spare; /* both with room for all places that an image has */
-  size_t room, count, taken;
+  size_t room, count, taken, most;
   int is_listed, is_sorted;
 };
 
@@ -249,7 +249,10 @@ void sort_places(struct places *places);
 size_t first_place(const struct places *places, uint32_t home);
 /* The image's own, as its gate and maps are now. */
 const struct places *image_places(struct kefs_image *image);
-/* How many pages the next commit may take before any is brought home. */
+/* After a plan of so many pages: these are to be read anew, but so many more are taken at the most. */
+void change_places(struct kefs_image *image, size_t pages);
+/* Whether the next commit may take so many pages before any is brought home. */
+int has_free_places(struct kefs_image *image, size_t pages);
 size_t free_places(struct kefs_image *image);
 /* The first sector of what stands for a home. */
 size_t standing_sector(struct kefs_image *image, uint32_t home);

@@ -6,7 +6,7 @@ enum { BLOCK_NUMBERS = 504, HEAD = 64, BODY_NUMBERS = 4 * BLOCK_NUMBERS }; /* of
 
 int new_places(const struct layout *layout, struct places *places) {
   size_t room = places_of(layout), bytes = room * sizeof *places->list;
-  *places = (struct places){.list = new_memory(bytes), .spare = new_memory(bytes), .room = room};
+  *places = (struct places){.list = new_memory(bytes), .spare = new_memory(bytes), .room = room, .most = room};
   return places->list == NULL || places->spare == NULL ? ENOMEM : KEFS_OK;
 }
 
@@ -48,7 +48,7 @@ static void list_pool(const struct layout *layout, uint64_t homes, const unsigne
 void list_places(const struct layout *layout, uint64_t homes, const unsigned char *map, uint32_t first, struct places *places) {
   if (layout->blocks == 0) list_journal(map, first, places);
   else list_pool(layout, homes, map, places);
-  places->taken = places->count;
+  places->taken = places->most = places->count;
   places->is_listed = 1, places->is_sorted = 0;
 }
 
@@ -86,14 +86,20 @@ size_t first_place(const struct places *places, uint32_t home) {
 
 /* The image's own */
 
-void forget_places(struct kefs_image *image) { image->places.is_listed = image->places.is_sorted = 0; }
+void change_places(struct kefs_image *image, size_t pages) {
+  struct places *places = &image->places;
+  places->is_listed = places->is_sorted = 0;
+  places->most = pages < places->room - places->most ? places->most + pages : places->room;
+}
+
+void forget_places(struct kefs_image *image) { change_places(image, image->places.room); }
 
 static void list_own(struct kefs_image *image) {
   struct places *places = &image->places;
   uint32_t map = named_map(image);
   if (places->is_listed) return;
   if (map != 0) list_places(&image->layout, home_pages(image), sector_at(image, map), map, places);
-  else places->count = places->taken = 0, places->is_listed = 1, places->is_sorted = 0;
+  else places->count = places->taken = places->most = 0, places->is_listed = 1, places->is_sorted = 0;
 }
 
 const struct places *image_places(struct kefs_image *image) {
@@ -106,6 +112,12 @@ size_t free_places(struct kefs_image *image) {
   if (image->layout.blocks == 0) return JOURNAL_PAGES;
   list_own(image);
   return image->places.room - image->places.taken;
+}
+
+/* A list of all places takes longer than all else that is done before a plan of one page, so it is made where what is known without it does not answer. */
+int has_free_places(struct kefs_image *image, size_t pages) {
+  const struct places *places = &image->places;
+  return (image->layout.blocks > 0 && pages <= places->room - places->most) || pages <= free_places(image);
 }
 
 size_t standing_sector(struct kefs_image *image, uint32_t home) {

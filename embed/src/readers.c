@@ -23,6 +23,7 @@
    - INTENT, by a writer that is about to commit or to open: no reader begins a turn then.
    - TURN, shared, by readers in their turn, which takes some megabytes: the writer waits for its end.
    - LISTS, by the writer: which homes each of its last commits changed.
+   - INTEREST, shared, by readers from their first turn on: where none has it, LISTS names no home.
    That a snapshot is whole rests on the first two alone; the next three make waits short. A reader waits for the commit that is under way, and
    the writer for the turns that are. It waits for them a second at most, as for a reader that was stopped, and then goes on, and from then on in a tenth of the
    time at most until it finds none in the way; such a reader finds another byte of STATES, or another time of change, and reads again.
@@ -49,7 +50,7 @@ enum { PATIENCE = 1000, LITTLE_PATIENCE = 10, SELDOM = 10 }; /* milliseconds tha
 
 /* Locks */
 
-static const off_t INTENT = (off_t)1 << 62, TURN = INTENT + 1, NEXT = INTENT + 2, LISTS = INTENT + ((off_t)1 << 60), STATES = INTENT + ((off_t)1 << 61);
+static const off_t INTENT = (off_t)1 << 62, TURN = INTENT + 1, NEXT = INTENT + 2, INTEREST = INTENT + 3, LISTS = INTENT + ((off_t)1 << 60), STATES = INTENT + ((off_t)1 << 61);
 enum { COUNT_BITS = 24, EPOCH_BITS = 32 }; /* of a place in STATES: an opening's random number, and how many commits there were since */
 enum { REACH = 16, MOST_RUNS = 32 };       /* commits that LISTS names, and runs of neighbouring homes that one of them may have there */
 
@@ -142,16 +143,21 @@ static size_t run_of(const struct kefs_image *image, size_t i) {
   return end - i;
 }
 
-/* Tells which homes are other ones since the state before this one. Where they are too many runs, readers look at all pages. */
-static int tell_homes(const struct kefs_image *image, off_t state) {
-  int fd = image->fd, number = set_locks(fd, F_UNLCK, list_of(state), (off_t)1 << LIST_BITS);
+static int are_few(const struct kefs_image *image) {
   size_t i = 0;
-  for (int run = 0; run < MOST_RUNS && i < image->planned->count && number == KEFS_OK; run++) {
-    size_t homes = run_of(image, i);
+  for (int run = 0; run < MOST_RUNS && i < image->planned->count; run++) i += run_of(image, i);
+  return i == image->planned->count;
+}
+
+/* Tells which homes are other ones since the state before this one. Where they are too many runs readers look at all pages, and none is named, nor where there is no
+   reader: each lock takes time by the number of those that are there. */
+static int tell_homes(const struct kefs_image *image, off_t state) {
+  int fd = image->fd, number = set_locks(fd, F_UNLCK, list_of(state), (off_t)1 << LIST_BITS), names_all = are_few(image) && !has_dropped(image) && !is_free(fd, INTEREST);
+  for (size_t i = 0, homes; names_all && i < image->planned->count && number == KEFS_OK; i += homes) {
+    homes = run_of(image, i);
     number = set_locks(fd, F_WRLCK, list_of(state) + home_taken(image, i), (off_t)homes);
-    i += homes;
   }
-  return (i < image->planned->count || has_dropped(image)) && number == KEFS_OK ? set_lock(fd, F_WRLCK, end_of_list(state)) : number;
+  return names_all || number != KEFS_OK ? number : set_lock(fd, F_WRLCK, end_of_list(state));
 }
 
 /* The list is there before the state is, and INTENT goes last: a reader whose turn begins finds both. Where the list can't be had, the state is no next one of
@@ -274,7 +280,8 @@ static int try_turn(void *of) {
 
 static int wait_for_turn(struct reading *reading) {
   struct kefs_image *image = reading->image;
-  int number = set_lock(image->fd, F_RDLCK, NEXT);
+  int number = set_lock(image->fd, F_RDLCK, INTEREST);
+  if (number == KEFS_OK) number = set_lock(image->fd, F_RDLCK, NEXT);
   if (number == KEFS_OK) number = look_until(try_turn, reading, &reading->wait);
   set_lock(image->fd, F_UNLCK, NEXT);
   if (number == EWOULDBLOCK) return is_busy_reading(image);

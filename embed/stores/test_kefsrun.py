@@ -249,14 +249,14 @@ print(m[0])
         done = self.python(f"import subprocess, sys\nsys.exit(subprocess.run([sys.executable, '-c', {inner!r}]).returncode)")
         self.says(done, 1, os.strerror(errno.EBUSY))
 
-    def test_a_commit_of_over_4031_pages(self):
+    def test_a_commit_of_over_4032_pages(self):
         most = ("-m", "16M")
         text = "os.ftruncate(fd, 1 << 24)\nos.fsync(fd)\nm = mmap.mmap(fd, 1 << 24)\nfor k in range({0}): m[4096 * k] = {1}\ntry:\n    os.fsync(fd)\nexcept OSError as error:\n    print(error.errno)\n"
-        self.assertEqual(self.python(text.format(4031, 1), options=most).stdout, "")
-        self.assertEqual(self.python(text.format(4032, 1), options=most).stdout, "")  # all but one are as they are durable
-        done = self.python(text.format(4032, 2), options=most)
+        self.assertEqual(self.python(text.format(4032, 1), options=most).stdout, "")
+        self.assertEqual(self.python(text.format(4033, 1), options=most).stdout, "")  # all but one are as they are durable
+        done = self.python(text.format(4033, 2), options=most)
         self.assertEqual(done.stdout, f"{errno.E2BIG}\n")
-        self.assertIn("over 4031 pages", done.stderr)
+        self.assertIn("over 4032 pages", done.stderr)
 
     def test_what_is_refused(self):
         for call, number in (

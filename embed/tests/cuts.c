@@ -70,7 +70,7 @@ static void use(size_t first, size_t end) { memset(used + first / BLOCK * BLOCK,
 /* Of a pool: the block of a map that says how many count. Slots are behind it. */
 static size_t map_of_pool(size_t j) { return 16 + 4040 * map_blocks * j + BLOCK * (map_blocks - 1); }
 
-enum { SLOTS = 2 * PAGES }; /* of a body that commits of so few pages take */
+enum { SLOTS = PAGES * PAGES }; /* of a body that commits of so few pages take: each takes a row, and behind so many slots with a page and rows too short lies one */
 
 static size_t homes_of(int layout) { return layout == 4 ? 16 + 8080 * map_blocks : (size_t)sectors_of(layout)->homes; }
 

@@ -1,5 +1,5 @@
-"""python3 -m unittest test_kefs: the Python binding, over KEFS_LIBRARY, and images that it makes against those of images.py and, where
-crates/pagefmt is built, of pagefmt. Images that are not made by the library are of all layouts that are opened; kefscheck alone takes layout 3."""
+"""python3 -m unittest test_kefs: the Python binding, over KEFS_LIBRARY, and images that it makes against those of images.py and of
+pagefmt, as tools/built.py finds it or PAGEFMT names it. Images that are not made by the library are of all layouts that are opened; kefscheck alone takes layout 3."""
 
 import ctypes
 import errno
@@ -19,8 +19,12 @@ import kefs
 from images import LAYOUTS, new_image, new_pool_image, pool_homes, with_journal, with_open_gate, with_open_journal, with_pool
 
 HERE = os.path.dirname(os.path.abspath(__file__))
+sys.path.append(os.path.join(HERE, "../../tools"))
+from built import built  # noqa: E402
+
 KEFSCHECK = os.path.join(HERE, "../out/kefscheck")
-PAGEFMT = os.environ.get("PAGEFMT", os.path.join(HERE, "../../crates/pagefmt/out/pagefmt"))
+BUILT = built(("pagefmt",))
+PAGEFMT = os.environ.get("PAGEFMT") or BUILT and BUILT.path("pagefmt")
 
 
 def content(path):
@@ -74,8 +78,8 @@ class Images(unittest.TestCase):
         self.assertRaises(ValueError, kefs.format, self.path + "2", [1 << 32])
 
     def test_a_new_image_is_that_of_pagefmt(self):
-        if not os.access(PAGEFMT, os.X_OK):
-            self.skipTest("pagefmt is not built")
+        if not PAGEFMT:
+            self.skipTest("pagefmt is not built, and prebuilt/ has none for this machine")
         bytes_of_two = os.urandom(9001)
         for name, given in (("two", bytes_of_two), ("three", b"")):
             with open(os.path.join(self.folder, name), "wb") as file:

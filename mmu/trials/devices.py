@@ -8,7 +8,7 @@ import tempfile
 
 HERE = os.path.dirname(os.path.abspath(__file__))
 sys.path[:0] = [os.path.dirname(HERE)]
-from emulator import CPU, MMU, built, compiled, disk, failing_disk, make_image, make_kernel, make_swap, qemu_words
+from emulator import CPU, MMU, built, compiled, disk, failing_disk, make_image, make_kernel, make_swap, pagefmt, qemu_words
 
 SECONDS = 300
 WORDS = ["pagemmu", 1, 64, 64, "sv39"]
@@ -57,15 +57,23 @@ def found_in(text):
     return tuple(map(int, found.groups())) if found else (-1, -1)
 
 
+def settle(room, image, verb):
+    """Makes the image anew of its files: none of its pages stands in a journal or a slot, so that no opening writes the gate."""
+    with open(f"{room}/bytes", "wb") as file:
+        subprocess.run([built(["pagecat"]).path("pagecat"), image, "1"], stdout=file, check=True)
+    os.remove(image)
+    pagefmt(verb, image, [f"ro:{room}/bank", f"rw:{room}/bytes"])
+
+
 def try_failing_gate(tally):
-    """An msync whose write of the gate fails returns EIO, and the kernel says so; the next run finds what was durable, and goes on. A look by pagecat settles the journal first, so
-    that the first write of the gate is an msync's."""
+    """An msync whose write of the gate fails returns EIO, and the kernel says so; the next run finds what was durable, and goes on. The image is settled first, so that the first write
+    of the gate is an msync's."""
     for verb, gate in GATES.items():
         with tempfile.TemporaryDirectory() as room:
             image, swap = bank_image(room, verb)
             whole = [disk(image), disk(swap)]
             tally.check(f"{verb}: a run", ran(qemu_words(whole, WORDS))[1], 0)
-            subprocess.run([built(["pagecat"]).path("pagecat"), image, "1"], stdout=subprocess.DEVNULL, check=True)
+            settle(room, image, verb)
             text, status = ran(qemu_words([failing_disk(image, f"iotype=write,sector={gate}"), disk(swap)], WORDS))
             tally.check(f"{verb}: the gate's write fails", ("msync: error 5\nkernel: an msync failed" in text, "durable" in text, found_in(text), status), (True, False, (500, 1000000), 3))
             text, status = ran(qemu_words(whole, WORDS))

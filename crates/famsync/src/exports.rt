@@ -78,10 +78,7 @@ pub extern "C" fn famsync_open(
             handle.state = PENDING;
             OK
         }
-        Err(refusal) => {
-            *used = 0;
-            number(refusal)
-        }
+        Err(refusal) => number(refusal),
     }
 }
 
@@ -152,10 +149,7 @@ pub extern "C" fn famsync_commit(
             handle.state = PENDING;
             OK
         }
-        Err(refusal) => {
-            *used = 0;
-            number(refusal)
-        }
+        Err(refusal) => number(refusal),
     }
 }
 
@@ -207,10 +201,7 @@ pub extern "C" fn famsync_tidy(
             handle.state = PENDING;
             OK
         }
-        Err(refusal) => {
-            *used = 0;
-            number(refusal)
-        }
+        Err(refusal) => number(refusal),
     }
 }
 

@@ -59,16 +59,6 @@ impl Bench {
         expect(rt, is_done, "a plan that can't be carried out");
     }
 
-    /// Plans an opening, and carries it out.
-    fn open(&mut self, rt: &(impl AllocGlobal + Abort), wanted: [usize; 4]) {
-        self.carry(rt, Request::Open, &[], wanted);
-    }
-
-    /// Plans that all pages are brought home, and carries it out.
-    fn tidy(&mut self, rt: &(impl AllocGlobal + Abort), wanted: [usize; 4]) {
-        self.carry(rt, Request::Tidy, &[], wanted);
-    }
-
     /// The byte that fills a page.
     fn byte_of(&mut self, rt: &(impl AllocGlobal + Abort), page: u32) -> Option<u8> {
         let image = rows_of(rt, &self.disk);
@@ -101,13 +91,13 @@ fn pages_of(rt: &(impl AllocGlobal + Abort), byte: u8, count: u32) -> Vec<[u8; 4
 #[test]
 fn each_page_in_rising_order_takes_a_call(rt: HostRuntime) {
     let mut bench = Bench::new(&rt, 3);
-    bench.open(&rt, [0; 4]);
+    bench.carry(&rt, Request::Open, &[], [0; 4]);
     let pages = first_pages(&rt, PAGES);
     let bytes = Vec::from_elem(rt.alloc(), [9; 4096], pages.len()).expect(&rt, "memory");
     bench.commit(&rt, pages.as_slice(), bytes.as_slice(), [25, 2, 1100, 0]);
     equal(&rt, bench.byte_of(&rt, 1099), Some(9));
     // An opening writes the map anew.
-    bench.open(&rt, [25, 2, 0, 0]);
+    bench.carry(&rt, Request::Open, &[], [25, 2, 0, 0]);
     let page = FilePage { file: 0, page: 555 };
     bench.commit(&rt, &[page], &[[8; 4096]], [25, 2, 1, 0]);
     equal(&rt, bench.byte_of(&rt, 555), Some(8));
@@ -147,13 +137,13 @@ fn pages_go_home_in_a_call_each(rt: HostRuntime) {
 #[test]
 fn a_tidy_brings_all_pages_home_in_two_syncs(rt: HostRuntime) {
     let mut bench = Bench::new(&rt, 1);
-    bench.tidy(&rt, [0; 4]);
+    bench.carry(&rt, Request::Tidy, &[], [0; 4]);
     let pages = first_pages(&rt, 3);
     let bytes = [[1; 4096], [2; 4096], [3; 4096]];
     bench.commit(&rt, pages.as_slice(), &bytes, [9, 2, 3, 0]);
-    bench.tidy(&rt, [9, 2, 0, 3]);
-    bench.tidy(&rt, [0; 4]);
-    bench.open(&rt, [0; 4]);
+    bench.carry(&rt, Request::Tidy, &[], [9, 2, 0, 3]);
+    bench.carry(&rt, Request::Tidy, &[], [0; 4]);
+    bench.carry(&rt, Request::Open, &[], [0; 4]);
     for (page, byte) in [(0, 1), (1, 2), (2, 3), (3, 0)] {
         equal(&rt, bench.byte_of(&rt, page), Some(byte));
     }

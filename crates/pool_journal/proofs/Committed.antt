@@ -2,7 +2,7 @@
 use Rattle.std.proofs.Common.{◌≡◌, ◌⊎◌, ◌<◌, ℕ, not, List, Result, Ok, Err, IsErrAnd, sym, ap, subst, ◌∙◌, ⊎_elim, inl, inr, arith, ◌≤◌, ◌*◌, length}
 use Rattle.disk_model.{proofs.{Moments.{asks_once, asks_then, asks_wider, weaker}, Naming.{once_wider}}, specs.{Moments.{AsksOnly, LeavesOnly}, Stop.{Image, MayLeave, NamesOnce}, declared.sector_disk.{DiskFault.{DiskFault}, SectorDisk.{Ghosts}}}}
 use Rattle.pool_journal.proofs.{Asking.{is_used, named_asks}, Loose.{few, loose_high, loose_low}, Phases.{while_writing, still_settled, while_naming, loose_blocks, gate_blocks, new_rest, new_others, new_settled}}
-use Rattle.pool_journal.specs.{Commit.{TakesFirst, IsWritten, NamesMap}, Committing.{GivesInPool, StagesCommit, CommitsInPool, IsPoolStaged, IsPoolNoted, PoolCommitsInBlocks}, Gates.{IsPoolGate}, Journal.{TurnsMap, free_count}, Maps.{entries_of}}
+use Rattle.pool_journal.specs.{Commit.{TakesFree, IsWritten, NamesMap}, Committing.{GivesInPool, StagesCommit, CommitsInPool, IsPoolStaged, IsPoolNoted, PoolCommitsInBlocks}, Gates.{IsPoolGate}, Journal.{TurnsMap, free_count}, Maps.{entries_of}}
 use Rattle.pool_journal.specs.Pools.{pool, pool_named, IsLoose, IsPoolRest, IsPoolUsed, IsSingle}
 use Rattle.pool_journal.specs.declared.{map.SlotMap.{SlotMap}, pool.PoolJournal.{PoolJournal}}
 use Rattle.sync_journal.proofs.{Causes.{told_on, none_failed, puts_failed}, Shared.{blocks_weaker}, Layouts.{or_before}, Runs.{one_more, of_more}}
@@ -168,7 +168,7 @@ module _ {D S : Type 0} (g : Ghosts D) (s : SourceGhosts S) (was : PoolJournal) 
       asks_device = asks_device;
       noted = subst (λ (map : SlotMap). AsksOnly g (λ k. IsPoolGate k ⊎ IsPoolNoted m was.second (entries_of was.map) (entries_of map) homes k) old new) (sym turns.map) asks_noted;
       room = subst (λ (map : SlotMap). length homes ≤ 504 * m → 504 * m ≤ free_count m (entries_of map)) (sym turns.map) stages.room;
-      placed = subst (λ (map : SlotMap). TakesFirst m (not was.second) (entries_of was.map) (entries_of map) homes) (sym turns.map) stages.placed;
+      placed = subst (λ (map : SlotMap). TakesFree m (entries_of was.map) (entries_of map)) (sym turns.map) stages.placed;
       single = λ was_single. subst (λ (map : SlotMap). IsSingle m (entries_of map)) (sym turns.map) (stages.single was_single);
       second = turns.second ∙ ap not stages.changes.second;
       synced = synced;

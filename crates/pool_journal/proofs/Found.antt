@@ -1,5 +1,5 @@
 -- Places of a number among others.
-use Rattle.std.proofs.Common.{◌≡◌, ◌+◌, ◌*◌, ◌<◌, ◌≤◌, ◌≢◌, ℕ, zero, suc, Some, None, Bool, true, false, List, length, get_or, take, refl, sym, ap, subst, ◌∙◌, ⊎_elim, arith, if◌then◌else◌, ◌==◌, ◌++◌, ◌∷◌, [], add-one}
+use Rattle.std.proofs.Common.{◌≡◌, ◌+◌, ◌*◌, ◌<◌, ◌≤◌, ◌≢◌, ℕ, zero, suc, Option, Some, None, Bool, true, false, List, length, get_or, take, refl, sym, ap, subst, ◌∙◌, ⊎_elim, arith, if◌then◌else◌, ◌==◌, ◌++◌, ◌∷◌, [], add-one}
 use Rattle.std.proofs.lemmas.{Bool.{cases_eq, cases_lt, eq-eqb, Decides.{nat_tests}}, List.{append_assoc, append-nil, length-take-le, take_all, take-append-le, take-take}}
 use Rattle.pool_journal.specs.{Maps.{entries_of, IsMapOf, free_among}, Pools.{first_among, some_or}, declared.{map.SlotMap.{SlotMap}, slot.Slot.{Slot}}}
 use mir.Val.{bool_byte}
@@ -36,6 +36,18 @@ none_over names x j (suc k) none others =
 pub free_more : (names : ℕ → ℕ) (body : Bool) (j : ℕ) → free_among names body (j + 1) ≡ free_among names body j ++ (if names j == 0 then record { second = body; place = j } ∷ [] else [])
 unfolding free_among
 free_more names body j = rw add-one refl
+
+-- where no place is free none is listed
+pub none_free : (names : ℕ → ℕ) (body : Bool) (n : ℕ) → first_among names 0 n ≡ None → free_among names body n ≡ []
+unfolding first_among free_among
+none_free names body zero none = refl
+none_free names body (suc n) none = step (first_among names 0 n) (names n == 0) none (none_free names body n)
+  where
+    step : (o : Option ℕ) (b : Bool) → some_or o (if b then Some n else None) ≡ None → (o ≡ None → free_among names body n ≡ [])
+        → free_among names body n ++ (if b then record { second = body; place = n } ∷ [] else []) ≡ []
+    step None false is before = ap (λ l. l ++ []) (before refl)
+    step None true is before = absurd (cc)
+    step (Some r) b is before = absurd (cc)
 
 -- one, where it is 0
 pub one_where : (b : Bool) → bool_byte b ≡ if b then 1 else 0

@@ -1,7 +1,7 @@
--- The slots that a map gives to no home: they are apart.
-use Rattle.std.proofs.Common.{◌≡◌, ◌*◌, ◌<◌, ◌≤◌, ◌-◌, ◌++◌, ◌∷◌, [], ℕ, zero, suc, Bool, true, false, not, List, length, take, refl, sym, ap, subst, ◌∙◌, ⊎_elim, arith, if◌then◌else◌, ◌==◌}
-use Rattle.std.proofs.lemmas.{Bool.{cases_lt, eqb-true}, List.{append-nil, get_or_append_left, get_or-append_right, get_or-take, length-append, length-take-le}}
-use Rattle.pool_journal.specs.{Giving.{slot_at, AreApart, AreFree}, Journal.{free_count}, Maps.{free_among, free_slots}}
+-- The slots that a map gives to no home, in one order or another: they are apart.
+use Rattle.std.proofs.Common.{◌≡◌, ◌+◌, ◌*◌, ◌<◌, ◌≤◌, ◌-◌, ◌++◌, ◌∷◌, [], ℕ, zero, suc, Bool, true, false, not, List, length, take, refl, sym, ap, subst, ◌∙◌, ⊎_elim, arith, if◌then◌else◌, ◌==◌}
+use Rattle.std.{proofs.lemmas.{Bool.{cases_eq, cases_lt, eqb-true, Decides.{nat_tests}}, List.{append-nil, get_or_append_left, get_or-append_right, get_or-take, length-append, length-take}}, specs.Prelude.{nat_lt}}
+use Rattle.pool_journal.specs.{Giving.{slot_at, AreApart, AreFree}, Journal.{free_count}, Maps.{free_among, free_slots, behind}}
 use Rattle.pool_journal.specs.declared.slot.Slot.{Slot}
 
 -- slots of one body in rising order, that are given to none
@@ -69,73 +69,124 @@ free_list names body (suc n) = step (free_list names body n) (names n == 0) refl
     step are true is = one_more names body n (free_among names body n) are (eqb-true (names n) 0 is)
     step are false is = one_past names body n (free_among names body n) are
 
--- those of both bodies
-module _ (m : ℕ) (entries : Bool → ℕ → ℕ) (first other : Bool) (differ : first ≡ other → ⊥) where
-  abbrev xs : List Slot
-  xs = free_among (entries first) first (504 * m)
+-- two slots are the same one
+abbrev pub IsSame : Slot → Slot → Type 0
+IsSame s t = (s.place ≡ t.place) × (s.second ≡ t.second)
 
-  abbrev ys : List Slot
-  ys = free_among (entries other) other (504 * m)
+same_as : (s s' t t' : Slot) → s ≡ s' → t ≡ t' → IsSame s t → IsSame s' t'
+same_as s s' t t' e e' same = (sym (ap (λ x. x.place) e) ∙ same.0 ∙ ap (λ x. x.place) e', sym (ap (λ x. x.second) e) ∙ same.1 ∙ ap (λ x. x.second) e')
 
-  one : IsFreeList (entries first) first (504 * m) xs
-  one = free_list (entries first) first (504 * m)
+-- no slot of one list is one of the other
+abbrev pub AreBeside : List Slot → List Slot → Type 0
+AreBeside xs ys = (i j : ℕ) → i < length xs → j < length ys → IsSame (slot_at xs i) (slot_at ys j) → ⊥
 
-  two : IsFreeList (entries other) other (504 * m) ys
-  two = free_list (entries other) other (504 * m)
-
+-- what lists one after another are if each of them is
+module _ (xs ys : List Slot) where
   after : (j : ℕ) → j < length (xs ++ ys) → length xs ≤ j → j - length xs < length ys
   after j within from = let long = length-append xs ys in omega (arith, within, from, long)
 
-  pub free_are : AreFree m entries (free_slots m entries first other)
-  free_are j within = ⊎_elim
-      (λ before. (let e = left_at xs ys j before in let less = one.below j before in let same = ap (λ s. s.place) e in (
-        omega (arith, less, same),
-        ap (λ s. entries s.second s.place) e ∙ ap (λ b. entries b (slot_at xs j).place) (one.of_body j before)
-            ∙ one.free j before,
-      )))
-      (λ from. (let e = right_at xs ys j from in let k = j - length xs in let in_ys = after j within from in let less = two.below k in_ys in let same = ap
-      (λ s. s.place) e in (
-        omega (arith, less, same),
-        ap (λ s. entries s.second s.place) e
-            ∙ ap (λ b. entries b (slot_at ys k).place) (two.of_body k in_ys) ∙ two.free k in_ys,
-      )))
+  pub both_free : (m : ℕ) (entries : Bool → ℕ → ℕ) → AreFree m entries xs → AreFree m entries ys → AreFree m entries (xs ++ ys)
+  both_free m entries one two j within = ⊎_elim
+      (λ before. subst (λ (s : Slot). (s.place < 504 * m) × (entries s.second s.place ≡ 0)) (sym (left_at xs ys j before)) (one j before))
+      (λ from. subst (λ (s : Slot). (s.place < 504 * m) × (entries s.second s.place ≡ 0)) (sym (right_at xs ys j from)) (two (j - length xs) (after j within from)))
       (cases_lt j (length xs))
 
-  pub free_apart : AreApart (free_slots m entries first other)
-  free_apart i j less within same_place same_body = ⊎_elim
-      (λ before. (let first_in : i < length xs = omega (arith, less, before) in
-      let e = ap (λ s. s.place) (left_at xs ys i first_in) in let e' = ap (λ s. s.place) (left_at xs ys j before) in
-      let rises = one.rising i j less before in omega (arith, e, e', rises, same_place)))
+  pub both_apart : AreApart xs → AreApart ys → AreBeside xs ys → AreApart (xs ++ ys)
+  both_apart one two beside i j less within place second = ⊎_elim
+      (λ before. (let first : i < length xs = omega (arith, less, before) in
+      let same = same_as _ _ _ _ (left_at xs ys i first) (left_at xs ys j before) (place, second) in one i j less before same.0 same.1))
       (λ from. ⊎_elim
-      (λ before. differ (sym (ap (λ s. s.second) (left_at xs ys i before) ∙ one.of_body i before) ∙ same_body ∙ ap (λ s. s.second) (right_at xs ys j from)
-      ∙ two.of_body (j - length xs) (after j within from)))
-      (λ from'. (let e = ap (λ s. s.place) (right_at xs ys i from') in let e' = ap (λ s. s.place) (right_at xs ys j from) in
-      let rises = two.rising (i - length xs) (j - length xs) (omega (arith, less, from')) (after j within from) in omega (arith, e, e', rises, same_place)))
+      (λ before. beside i (j - length xs) before (after j within from) (same_as _ _ _ _ (left_at xs ys i before) (right_at xs ys j from) (place, second)))
+      (λ from'. (let same = same_as _ _ _ _ (right_at xs ys i from') (right_at xs ys j from) (place, second) in
+      two (i - length xs) (j - length xs) (omega (arith, less, from')) (after j within from) same.0 same.1))
       (cases_lt i (length xs)))
       (cases_lt j (length xs))
 
--- and the first of them
-pub nth_of_first : (n : ℕ) (slots : List Slot) (j : ℕ) → j < n → slot_at (take n slots) j ≡ slot_at slots j
-nth_of_first n slots j below = get_or-take n slots j (record { second = false; place = 0 }) below
+  pub both_beside : (zs : List Slot) → AreBeside zs xs → AreBeside zs ys → AreBeside zs (xs ++ ys)
+  both_beside zs one two i j within in_both same = ⊎_elim
+      (λ before. one i j within before (same_as _ _ _ _ refl (left_at xs ys j before) same))
+      (λ from. two i (j - length xs) within (after j in_both from) (same_as _ _ _ _ refl (right_at xs ys j from) same))
+      (cases_lt j (length xs))
 
-first_at : (n : ℕ) (slots : List Slot) (j : ℕ) → j < length (take n slots) → n ≤ length slots → slot_at (take n slots) j ≡ slot_at slots j
-first_at n slots j within most = let long = length-take-le n slots most in nth_of_first n slots j (omega (arith, within, long))
+-- The places before one are passed over.
+module _ (p : ℕ) (names : ℕ → ℕ) where
+  behind_before : (r : ℕ) → r < p → behind p names r ≡ 1
+  behind_before r less = (let is : nat_lt r p ≡ true = grind (arith, nat_tests) in ap (λ b. if b then 1 else names r) is)
 
-pub first_apart : (n : ℕ) (slots : List Slot) → n ≤ length slots → AreApart slots → AreApart (take n slots)
-first_apart n slots most apart i j less within same_place same_body =
-    let long = length-take-le n slots most in
-    let e = first_at n slots i (omega (arith, less, within)) most in
-    let e' = first_at n slots j within most in
-    apart i j less (omega (arith, within, long, most)) (sym (ap (λ s. s.place) e) ∙ same_place ∙ ap (λ s. s.place) e') (sym (ap (λ s. s.second) e)
-    ∙ same_body ∙ ap (λ s. s.second) e')
+  pub behind_from : (r : ℕ) → p ≤ r → behind p names r ≡ names r
+  behind_from r from = (let is : nat_lt r p ≡ false = grind (arith, nat_tests) in ap (λ b. if b then 1 else names r) is)
 
-pub first_free : (n m : ℕ) (entries : Bool → ℕ → ℕ) (slots : List Slot) → n ≤ length slots → AreFree m entries slots → AreFree m entries (take n slots)
-first_free n m entries slots most free j within =
-    let long = length-take-le n slots most in
-    let e = first_at n slots j within most in
-    let is = free j (omega (arith, within, long, most)) in
-    let place = ap (λ s. s.place) e in
-    (omega (arith, place, is.0), ap (λ s. entries s.second s.place) e ∙ is.1)
+  pub behind_free : (r : ℕ) → behind p names r ≡ 0 → (p ≤ r) × (names r ≡ 0)
+  behind_free r is = ⊎_elim (λ less. absurd (let one = behind_before r less in omega (arith, one, is)))
+      (λ from. (from, sym (behind_from r from) ∙ is)) (cases_lt r p)
+
+  -- of those before it none is listed,
+  pub none_behind : (body : Bool) (n : ℕ) → n ≤ p → free_among (behind p names) body n ≡ []
+  unfolding free_among
+  none_behind body zero most = refl
+  none_behind body (suc n) most =
+      ap (λ l. l ++ (if behind p names n == 0 then record { second = body; place = n } ∷ [] else [])) (none_behind body n (omega (arith, most)))
+      ∙ ap (λ x. if x == 0 then record { second = body; place = n } ∷ [] else []) (behind_before n (omega (arith, most)))
+
+  none_more : (a b : ℕ) → a ≡ b → 0 + a ≡ b
+  none_more a b e = omega (arith, e)
+
+  -- and they are what the others lack of all
+  pub behind_long : (body : Bool) (n : ℕ) → p ≤ n → length (free_among (behind p names) body n) + length (free_among names body p) ≡ length (free_among names body n)
+  unfolding free_among
+  behind_long body zero most =
+      let none : p ≡ 0 = omega (arith, most) in
+      let e : length (free_among names body p) ≡ 0 = ap (λ k. length (free_among names body k)) none in omega (arith, e)
+  behind_long body (suc n) most = ⊎_elim
+      (λ same. ap (λ l. length l + length (free_among names body p)) (none_behind body (suc n) (omega (arith, same))) ∙ none_more _ _ (ap (λ k. length (free_among names body k)) same))
+      (λ other. (let here : ℕ → List Slot = λ x. if x == 0 then record { second = body; place = n } ∷ [] else [] in
+      let before = behind_long body n (omega (arith, most, other)) in
+      let same = ap (λ x. length (here x)) (behind_from n (omega (arith, most, other))) in
+      let ours = length-append (free_among (behind p names) body n) (here (behind p names n)) in
+      let all = length-append (free_among names body n) (here (names n)) in
+      omega (arith, before, same, ours, all)))
+      (cases_eq p (suc n))
+
+-- the slots that are free depend on the places that are looked at alone
+pub free_same : (names others : ℕ → ℕ) (body : Bool) (n : ℕ) → ((r : ℕ) → r < n → names r ≡ others r) → free_among names body n ≡ free_among others body n
+unfolding free_among
+free_same names others body zero same = refl
+free_same names others body (suc n) same =
+    ap (λ l. l ++ (if names n == 0 then record { second = body; place = n } ∷ [] else [])) (free_same names others body n (λ r below. same r (omega (arith, below))))
+    ∙ ap (λ x. free_among others body n ++ (if x == 0 then record { second = body; place = n } ∷ [] else [])) (same n (omega arith))
+
+-- Of such lists
+module _ (names others : ℕ → ℕ) (a b : Bool) (n k : ℕ) (xs ys : List Slot) (one : IsFreeList names a n xs) (two : IsFreeList others b k ys) where
+  pub list_free : (m : ℕ) (entries : Bool → ℕ → ℕ) → n ≤ 504 * m → ((r : ℕ) → names r ≡ 0 → entries a r ≡ 0) → AreFree m entries xs
+  list_free m entries most free j within = (
+    (let low = one.below j within in omega (arith, low, most)),
+    ap (λ body. entries body (slot_at xs j).place) (one.of_body j within) ∙ free (slot_at xs j).place (one.free j within),
+  )
+
+  pub list_apart : AreApart xs
+  list_apart i j less within place second = let rises = one.rising i j less within in omega (arith, rises, place)
+
+  pub bodies_beside : (a ≡ b → ⊥) → AreBeside xs ys
+  bodies_beside differ i j in_xs in_ys same = differ (sym (one.of_body i in_xs) ∙ same.1 ∙ two.of_body j in_ys)
+
+  pub places_beside : ((r s : ℕ) → names r ≡ 0 → s < k → r ≡ s → ⊥) → AreBeside xs ys
+  places_beside differ i j in_xs in_ys same = differ (slot_at xs i).place (slot_at ys j).place (one.free i in_xs) (two.below j in_ys) same.0
+
+-- the first of a list
+module _ (n : ℕ) (slots : List Slot) where
+  of_all : (j : ℕ) → j < length (take n slots) → j < length slots
+  of_all j within = let long = length-take n slots in omega (arith, long, within)
+
+  first_at : (j : ℕ) → j < length (take n slots) → slot_at (take n slots) j ≡ slot_at slots j
+  first_at j within = let long = length-take n slots in get_or-take n slots j (record { second = false; place = 0 }) (omega (arith, long, within))
+
+  pub first_apart : AreApart slots → AreApart (take n slots)
+  first_apart apart i j less within place second =
+      let same = same_as _ _ _ _ (first_at i (omega (arith, less, within))) (first_at j within) (place, second) in
+      apart i j less (of_all j within) same.0 same.1
+
+  pub first_free : (m : ℕ) (entries : Bool → ℕ → ℕ) → AreFree m entries slots → AreFree m entries (take n slots)
+  first_free m entries free j within = subst (λ (s : Slot). (s.place < 504 * m) × (entries s.second s.place ≡ 0)) (sym (first_at j within)) (free j (of_all j within))
 
 -- how many there are, in whichever order
 pub free_long : (m : ℕ) (entries : Bool → ℕ → ℕ) (first : Bool) → length (free_slots m entries first (not first)) ≡ free_count m entries

@@ -16,6 +16,7 @@ pub mod Phases
 pub mod Recovered
 pub mod Resumed
 pub mod Room
+pub mod Round
 pub mod Slots
 pub mod Stages
 pub mod Staging

@@ -1,20 +1,12 @@
 -- A map that is thinned by the homes of a commit, before its slots are copied home.
-use Rattle.std.proofs.Common.{length, not, ◌≡◌, ◌⊎◌, ◌≤◌, ◌<◌, ◌+◌, ◌*◌, ℕ, zero, suc, Bool, List, Option, Some, None, refl, sym, ap, subst, ◌∙◌, ⊎_elim, inl, inr, arith, ◌==◌, is_some, true, false, if◌then◌else◌}
-use Rattle.std.{proofs.lemmas.{Bool.{Decides.{nat_tests}}, List.{length-take-le}}, specs.Prelude.{nat_lt}}
-use Rattle.pool_journal.proofs.{Free.{free_long, free_are, free_apart, first_free, first_apart}, Loose.{Gives, slot_gives, slot_alike}, Taken.{live_same}}
-use Rattle.pool_journal.specs.{Commit.{thinned, IsFull, IsMoved}, Copying.{IsCopiedHome}, Filling.{AreSlots, IsFilled}, Giving.{number_but, slot_at, AreApart, AreFree}, Journal.{free_count, live_count}}
-use Rattle.pool_journal.specs.{Maps.{entries_of, free_slots}, Pools.{pool_home, slot_by, IsLooseHome, IsLooseSlot, IsSingle}, Room.{first_free_slots}, declared.{pool.PoolJournal.{PoolJournal}, slot.Slot.{Slot}}}
-use Rattle.sync_journal.specs.{Layout.{IsPageSector}, Map.{home_rank}}
+use Rattle.std.proofs.Common.{length, ◌≡◌, ◌⊎◌, ◌≤◌, ◌<◌, ◌+◌, ◌*◌, ℕ, suc, Bool, List, Option, Some, None, refl, sym, ap, ◌∙◌, ⊎_elim, inl, inr, arith, ◌==◌, true, false}
+use Rattle.std.{proofs.lemmas.{Bool.{Decides.{nat_tests}}}, specs.Prelude.{nat_lt, min}}
+use Rattle.pool_journal.proofs.{Loose.{Gives, slot_gives, slot_alike}, Taken.{but_either, live_same}}
+use Rattle.pool_journal.specs.{Commit.{thinned, IsFull, IsMoved}, Copying.{IsCopiedHome}, Filling.{AreSlots, IsFilled}, Giving.{number_but, slot_at, AreApart, AreFree}, Journal.{live_count}}
+use Rattle.pool_journal.specs.{Pools.{pool_home, slot_by, IsLooseHome, IsLooseSlot, IsSingle}, declared.slot.Slot.{Slot}}
+use Rattle.sync_journal.specs.Layout.{IsPageSector}
 
 -- a number is kept or taken
-but_either : (homes : List ℕ) (x : ℕ) → (number_but homes x ≡ 0) ⊎ (number_but homes x ≡ x)
-but_either homes zero = inl refl
-but_either homes (suc h) = here (is_some (home_rank homes h)) refl
-  where
-    here : (b : Bool) → is_some (home_rank homes h) ≡ b → (number_but homes (suc h) ≡ 0) ⊎ (number_but homes (suc h) ≡ suc h)
-    here true is = inl (ap (λ b. if b then 0 else suc h) is)
-    here false is = inr (ap (λ b. if b then 0 else suc h) is)
-
 pub but_most : (homes : List ℕ) (x : ℕ) → number_but homes x ≤ x
 but_most homes x = ⊎_elim (λ none. omega (arith, none)) (λ same. omega (arith, same)) (but_either homes x)
 
@@ -54,6 +46,10 @@ module _ (m : ℕ) (was thin : Bool → ℕ → ℕ) (homes : List ℕ) (is : (b
       let more : 504 * m < live_count m thin + length homes = grind (arith, nat_tests) in
       omega (arith, one, two, more)
 
+  -- each slot is given to what it was, or to none
+  pub thin_either : (body : Bool) (r : ℕ) → (thin body r ≡ was body r) ⊎ (thin body r ≡ 0)
+  thin_either body r = ⊎_elim (λ none. inr (is body r ∙ none)) (λ same. inl (is body r ∙ same)) (but_either homes (was body r))
+
   -- no home has two slots where none had
   pub thin_single : IsSingle m was → IsSingle m thin
   thin_single single a b r s low below same = ⊎_elim (λ none. inl (is a r ∙ none))
@@ -63,40 +59,19 @@ module _ (m : ℕ) (was thin : Bool → ℕ → ℕ) (homes : List ℕ) (is : (b
       (but_either homes (was b s)))
       (but_either homes (was a r))
 
--- The first free slots of a journal, as many as a commit takes.
-module _ (journal : PoolJournal) (n : ℕ) (few : n ≤ free_count journal.sizes.blocks (entries_of journal.map)) where
-  abbrev m : ℕ
-  m = journal.sizes.blocks
+-- as many are listed as are asked for, where there are so many
+pub least : (long n all : ℕ) → long ≡ min n all → n ≤ all → long ≡ n
+least long n all is few = omega (arith, is, few)
 
-  abbrev was : Bool → ℕ → ℕ
-  was = entries_of journal.map
-
-  abbrev all : List Slot
-  all = free_slots m was (not journal.second) (not (not journal.second))
-
-  within : n ≤ length all
-  within = let long = free_long m was (not journal.second) in omega (arith, few, long)
-
-  differ : (b : Bool) → b ≡ not b → ⊥
-  differ true e = cc
-  differ false e = cc
-
-  pub free_first_long : length (first_free_slots n journal) ≡ n
-  free_first_long = length-take-le n all within
-
-  pub free_first_are : AreFree m was (first_free_slots n journal)
-  free_first_are = first_free n m was all within (free_are m was (not journal.second) (not (not journal.second)) (differ (not journal.second)))
-
-  pub free_first_apart : AreApart (first_free_slots n journal)
-  free_first_apart = first_apart n all within (free_apart m was (not journal.second) (not (not journal.second)) (differ (not journal.second)))
-
-  pub free_first_slots : AreSlots m (first_free_slots n journal)
-  free_first_slots = record {
-    inside = λ j below. (free_first_are j below).0;
-    apart = λ i j less below same. free_first_apart i j less below (ap (λ s. s.place) same) (ap (λ s. s.second) same);
+-- The slots that are listed for a commit
+module _ (m : ℕ) (was : Bool → ℕ → ℕ) (slots : List Slot) (are : AreFree m was slots) where
+  -- are those of a pool,
+  pub are_slots : AreApart slots → AreSlots m slots
+  are_slots apart = record {
+    inside = λ j below. (are j below).0;
+    apart = λ i j less below same. apart i j less below (ap (λ s. s.place) same) (ap (λ s. s.second) same);
   }
 
-  -- what is filled of them is loose
-  pub filled_loose : (k : ℕ) → IsFilled m (first_free_slots n journal) (length (first_free_slots n journal)) k → IsLooseSlot m was k
-  filled_loose k filled = let slot = slot_at (first_free_slots n journal) filled.0 in
-      (slot.second, slot.place, (free_first_are filled.0 filled.1).0, (free_first_are filled.0 filled.1).1, filled.2)
+  -- and what is filled of them is loose.
+  pub filled_loose : (k : ℕ) → IsFilled m slots (length slots) k → IsLooseSlot m was k
+  filled_loose k filled = let slot = slot_at slots filled.0 in (slot.second, slot.place, (are filled.0 filled.1).0, (are filled.0 filled.1).1, filled.2)

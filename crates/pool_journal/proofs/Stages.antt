@@ -1,11 +1,11 @@
 -- The steps of a commit before the gate, one after another, and what holds where it ends after one of them.
-use Rattle.std.proofs.Common.{◌≡◌, ◌⊎◌, ◌≤◌, ◌<◌, ◌*◌, ℕ, Bool, not, List, length, get_or, Result, Ok, Err, IsErrAnd, refl, sym, ap, subst, ◌∙◌, inl, inr, arith}
+use Rattle.std.proofs.Common.{◌≡◌, ◌⊎◌, ◌≤◌, ◌<◌, ◌*◌, ℕ, Bool, not, List, length, get_or, Result, Ok, Err, IsErrAnd, refl, sym, subst, ◌∙◌, inl, inr, arith}
 use Rattle.disk_model.{proofs.{Moments.{asks_none, asks_once, asks_then, asks_wider}, Naming.{once_none, once_still, once_wider}}, specs.{Moments.{AsksOnly}, Stop.{Image, NamesOnce, Elapses}, declared.sector_disk.{DiskFault.{DiskFault}, SectorDisk.{Ghosts}}}}
-use Rattle.pool_journal.proofs.{Asking.{staged_asks, copied_run, filled_run, writes_loose}, BlockWrites.{of_noted}, Counted.{free_and_live, given_live}, Free.{nth_of_first}, Staging.{only_next, given_most, given_single, staged_gives, staged_others}}
+use Rattle.pool_journal.proofs.{Asking.{staged_asks, copied_run, filled_run, writes_loose}, BlockWrites.{of_noted}, Counted.{free_and_live, given_live}, Staging.{only_next, given_most, given_single, filled_taken, takes_free, staged_gives, staged_others}}
 use Rattle.pool_journal.specs.{Commit.{IsDropped}, Filling.{IsFilled}}
-use Rattle.pool_journal.specs.{Giving.{slot_at, AreRising}, Journal.{free_from}}
-use Rattle.pool_journal.specs.{Blocks.{IsNotedMap}, Committing.{StagesCommit, IsPoolStaged, IsPoolNoted}, Maps.{entries_of}, Pools.{pool_entry, IsLooseSlot, IsLoose, IsPoolMap, IsSingle}, Room.{ChangesNext, MakesRoom, FillsSlots, first_free_slots}}
-use Rattle.pool_journal.specs.declared.{map.SlotMap.{SlotMap}, pool.PoolJournal.{PoolJournal}, slot.Slot.{Slot}}
+use Rattle.pool_journal.specs.Giving.{AreRising, GivesFirst}
+use Rattle.pool_journal.specs.{Blocks.{IsNotedMap}, Committing.{StagesCommit, IsPoolStaged, IsPoolNoted}, Maps.{entries_of}, Pools.{pool_entry, IsLooseSlot, IsLoose, IsPoolMap, IsSingle}, Room.{ChangesNext, MakesRoom, FillsSlots, slots_of}}
+use Rattle.pool_journal.specs.declared.{map.SlotMap.{SlotMap}, pool.PoolJournal.{PoolJournal}}
 use Rattle.sync_journal.proofs.{Causes.{told_on, device_failed, none_failed}, Runs.{and_no_write}}
 use Rattle.sync_journal.specs.{Runs.{RunsOnDevice}, Source.{Asks, HasCauses}, Steps.{WritesInto}, declared.{faults.CommitFault.{CommitFault, TheVariants.{Device}}, source.PageSource.{Ghosts as SourceGhosts}}}
 
@@ -118,14 +118,14 @@ module _ {D : Type 0} {g : Ghosts D} {homes : List ℕ} {was : PoolJournal} {old
       }
 
       -- of which no more is asked for than it takes,
-      pub asks_noted : (new : D) → SyncsAll g mapped new → AsksOnly g (IsPoolNoted was.sizes.blocks was.second (entries_of was.map) (entries_of two.next) homes) old new
-      asks_noted new syncs =
+      pub asks_noted : GivesFirst (length homes) (slots_of two) homes one.next two.next → (new : D) → SyncsAll g mapped new → AsksOnly g (IsPoolNoted was.sizes.blocks was.second (entries_of was.map) (entries_of two.next) homes) old new
+      asks_noted given new syncs =
           let W : ℕ → Type 0 = IsPoolNoted was.sizes.blocks was.second (entries_of was.map) (entries_of two.next) homes in
           asks_then g W old mapped new
           (asks_then g W old written mapped
           (asks_then g W old copied written (asks_wider g (IsDropped was.sizes.blocks (entries_of was.map) homes) W old copied (λ k moved. inl (inl moved)) rooms.asks)
-          (asks_wider g (IsFilled was.sizes.blocks (first_free_slots (length homes) was) (length homes)) W copied written
-          (λ k at. inl (inr at)) fills_was.asks_slots))
+          (asks_wider g (IsFilled was.sizes.blocks (slots_of two) (length homes)) W copied written
+          (λ k at. inl (inr (filled_taken was.sizes.blocks (entries_of was.map) (slots_of two) homes one.next two.next fills_was.long fills_was.are given k at))) fills_was.asks_slots))
           (asks_once g W (IsNotedMap was.sizes.blocks (not was.second) (entries_of two.next)) written mapped (λ k map. inr map) maps_was.once))
           (asks_none g W mapped new syncs.asks)
 
@@ -154,17 +154,15 @@ stage_ends {g} {s} {homes} {was} {old} one copied rooms two written {from} {left
     record {
       gives = λ keeps given. (
         entries_of one.next,
-        staged_gives was.sizes.blocks (entries_of was.map) (not was.second) one.next two.next homes (first_free_slots (length homes) was) (g.content old) (g.content copied) (g.content written) (g.content new)
+        staged_gives was.sizes.blocks (entries_of was.map) (not was.second) one.next two.next homes (slots_of two) (g.content old) (g.content copied) (g.content written) (g.content new)
             (thins keeps) (filled keeps) (noted keeps) fill.long fill.are fill.given (s.pages from) (fill.body (map.run.kept (syncs.kept keeps)) given),
       );
-      others = λ keeps. staged_others was.sizes.blocks (entries_of was.map) (not was.second) one.next two.next homes (first_free_slots (length homes) was) (g.content old) (g.content copied) (g.content written) (g.content new)
+      others = λ keeps. staged_others was.sizes.blocks (entries_of was.map) (not was.second) one.next two.next homes (slots_of two) (g.content old) (g.content copied) (g.content written) (g.content new)
           (thins keeps) (filled keeps) (noted keeps) fill.long fill.are fill.given was.second (stages.run.touches keeps).content;
-      placed = λ j below.
-          let at = nth_of_first (length homes) (free_from was.sizes.blocks (entries_of was.map) (not was.second)) j below in
-          ap (λ (slot : Slot). entries_of two.next slot.second slot.place) (sym at) ∙ fill.given.given j below;
-      homes_are = given_most (length homes) (first_free_slots (length homes) was) homes one.next two.next was.sizes.homes fill.given fill.long rooms.homes_are inside;
-      single = λ was_single. given_single was.sizes.blocks (length homes) (first_free_slots (length homes) was) homes one.next two.next fill.given fill.long refl rising (rooms.single was_single) rooms.new_homes;
-      room = λ few. (let live = given_live was.sizes.blocks (length homes) (first_free_slots (length homes) was) homes one.next two.next fill.given in
+      placed = takes_free was.sizes.blocks (entries_of was.map) (slots_of two) homes one.next two.next fill.long fill.are fill.given rooms.keeps_slots;
+      homes_are = given_most (length homes) (slots_of two) homes one.next two.next was.sizes.homes fill.given fill.long rooms.homes_are inside;
+      single = λ was_single. given_single was.sizes.blocks (length homes) (slots_of two) homes one.next two.next fill.given fill.long refl rising (rooms.single was_single) rooms.new_homes;
+      room = λ few. (let live = given_live was.sizes.blocks (length homes) (slots_of two) homes one.next two.next fill.given in
           let all = free_and_live was.sizes.blocks (entries_of two.next) in let before = rooms.room few in omega (arith, live, all, before));
       mapped = λ keeps. subst (λ (content : Image). (body : Bool) (r : ℕ) → r < 504 * was.sizes.blocks → pool_entry was.sizes.blocks was.sizes.homes (not was.second) content body r ≡ entries_of two.next body r) (sym (syncs.same keeps)) (map.done (syncs.kept keeps));
       synced = synced;
@@ -174,7 +172,7 @@ stage_ends {g} {s} {homes} {was} {old} one copied rooms two written {from} {left
         causes = none_failed (g.failures old) (g.failures new) (s.failures from) (s.failures left) (calm ∙ map.calm ∙ fill.causes.device_calm ∙ rooms.calm) fill.causes.source_calm;
       };
       asks_device = stages.asks;
-      noted = asks_noted one copied rooms two written fills mapped maps new syncs;
+      noted = asks_noted one copied rooms two written fills mapped maps fill.given new syncs;
       once = stages.once;
       changes = stages.changes;
     }

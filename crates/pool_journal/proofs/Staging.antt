@@ -3,8 +3,8 @@ use Rattle.std.proofs.Common.{◌≡◌, ◌⊎◌, ◌≤◌, ◌<◌, ◌+◌,
 use Rattle.std.proofs.lemmas.Bool.{cases_lt}
 use Rattle.disk_model.{specs.Stop.{Image}}
 use Rattle.pool_journal.proofs.{Loose.{no_map, no_home, map_low}, Slots.{old_page}, Thinned.{is_given, gives_free, gives_homes}}
-use Rattle.pool_journal.specs.Commit.{IsThinned, GivesHomes, KeepsOthers}
-use Rattle.pool_journal.specs.{Filling.{HoldsSlots}, Giving.{slot_at, AreFree, GivesFirst, AreRising}, Maps.{entries_of}, Pools.{pool_slot, pool_home, IsLoose, IsLooseSlot, IsPoolMap, IsSingle}, Room.{ChangesNext}}
+use Rattle.pool_journal.specs.Commit.{IsThinned, GivesHomes, KeepsOthers, TakesFree, IsTaken}
+use Rattle.pool_journal.specs.{Filling.{HoldsSlots, IsFilled}, Giving.{slot_at, AreFree, GivesFirst, AreRising}, Maps.{entries_of}, Pools.{pool_slot, pool_home, IsLoose, IsLooseSlot, IsPoolMap, IsSingle}, Room.{ChangesNext}}
 use Rattle.pool_journal.specs.declared.{map.SlotMap.{SlotMap}, pool.PoolJournal.{PoolJournal}, slot.Slot.{Slot}}
 
 -- a journal that changes its next map alone, and what slots it takes
@@ -72,6 +72,23 @@ given_single m n slots homes old new given long all rising single none_had a b r
         let at : one.0 ≡ two.0 = ⊎_elim (λ less. absurd (order one.0 two.0 (omega (arith, two.1, long, all)) e less))
         (λ more. ⊎_elim (λ less. absurd (order two.0 one.0 (omega (arith, one.1, long, all)) (sym e) less)) (λ more'. omega (arith, more, more')) (cases_lt two.0 one.0)) (cases_lt one.0 two.0) in
         (one.3 ∙ ap (λ j. (slot_at slots j).second) at ∙ sym two.3, one.2 ∙ ap (λ j. (slot_at slots j).place) at ∙ sym two.2)
+
+-- Slots that a map gives to none are given to homes, and each other slot to what it was, or to none.
+module _ (m : ℕ) (was : Bool → ℕ → ℕ) (slots : List Slot) (homes : List ℕ) (old new : SlotMap) (long : length slots ≡ length homes) (are : AreFree m was slots) (given : GivesFirst (length homes) slots homes old new) where
+  -- No page that stood in a slot is written over,
+  pub takes_free : ((body : Bool) (r : ℕ) → (entries_of old body r ≡ was body r) ⊎ (entries_of old body r ≡ 0)) → TakesFree m was (entries_of new)
+  takes_free kept body r below = ⊎_elim
+      (λ slot. inr (inl (ap (was body) slot.2 ∙ ap (λ b. was b (slot_at slots slot.0).place) slot.3 ∙ (are slot.0 slot.1).1)))
+      (λ none. (let same = given.others body r (λ j within. none j (omega (arith, within, long))) in
+      ⊎_elim (λ e. inl (same ∙ e)) (λ free. inr (inr (same ∙ free))) (kept body r)))
+      (is_given (length slots) slots body r)
+
+  -- and what is filled is taken.
+  pub filled_taken : (k : ℕ) → IsFilled m slots (length homes) k → IsTaken m was (entries_of new) k
+  filled_taken k filled =
+      let slot = slot_at slots filled.0 in
+      let is = are filled.0 (let within = filled.1 in omega (arith, within, long)) in
+      (slot.second, slot.place, is.0, is.1, (λ none. (let to = given.given filled.0 filled.1 in omega (arith, to, none))), filled.2)
 
 -- The next map gives the slots to the homes:
 module _ (m : ℕ) (was : Bool → ℕ → ℕ) (second : Bool) (thin now : SlotMap) (homes : List ℕ) (slots : List Slot) (content copied filled staged : Image)

@@ -1,7 +1,7 @@
 -- The parts of a commit: a map is thinned, its slots are given to homes, what is loose is written, and the gate names it.
-use Rattle.std.specs.Prelude.{ℕ, ◌+◌, ◌*◌, ◌<◌, ◌≡◌, ◌⊎◌, Bool, not, List, length, get_or, take, None, suc}
+use Rattle.std.specs.Prelude.{ℕ, ◌+◌, ◌*◌, ◌<◌, ◌≡◌, ◌⊎◌, Bool, not, List, length, get_or, None, suc}
 use Rattle.disk_model.specs.{Moments.{Touches}, Sectors.{part_of}, Stop.{Image, MayLeave}, declared.sector_disk.SectorDisk.{Ghosts}}
-use Rattle.pool_journal.specs.{Filling.{IsFilled}, Giving.{number_but, slot_at}, Journal.{free_from, live_count}, Pools.{pool_gate, pool_slot, pool_home, pool_stands, pool_entry, slot_by, IsLoose, IsLooseHome, IsPoolRest}}
+use Rattle.pool_journal.specs.{Giving.{number_but}, Journal.{live_count}, Pools.{pool_gate, pool_slot, pool_home, pool_stands, pool_entry, slot_by, IsLoose, IsLooseHome, IsPoolRest}}
 use Rattle.sync_journal.specs.{Layout.{IsPageSector}, Map.{home_rank}}
 
 -- What a map gives when these homes keep no slot.
@@ -37,14 +37,13 @@ abbrev pub KeepsOthers : ℕ → (Bool → ℕ → ℕ) → (Bool → ℕ → �
 KeepsOthers m was now homes content staged = (h i : ℕ) → home_rank homes h ≡ None → i < 8
     → staged (pool_stands m h (slot_by m now h) + i) ≡ content (pool_stands m h (slot_by m was h) + i)
 
--- Home j of a commit has slot j of those that were free, of which one body's come first.
-abbrev pub TakesFirst : ℕ → Bool → (Bool → ℕ → ℕ) → (Bool → ℕ → ℕ) → List ℕ → Type 0
-TakesFirst m first was now homes = (j : ℕ) → j < length homes
-    → now (slot_at (free_from m was first) j).second (slot_at (free_from m was first) j).place ≡ suc (get_or homes j 0)
+-- A slot that a map gives to a home, and gave to another one or to none before, it gave to none: no page that stood in a slot is written over.
+abbrev pub TakesFree : ℕ → (Bool → ℕ → ℕ) → (Bool → ℕ → ℕ) → Type 0
+TakesFree m was now = (body : Bool) (r : ℕ) → r < 504 * m → (now body r ≡ was body r) ⊎ ((was body r ≡ 0) ⊎ (now body r ≡ 0))
 
--- a sector of one of the first n slots that were free
-abbrev pub IsTaken : ℕ → Bool → (Bool → ℕ → ℕ) → ℕ → ℕ → Type 0
-IsTaken m first was n k = IsFilled m (take n (free_from m was first)) n k
+-- a sector of a slot that was given to no home, and is given to one
+abbrev pub IsTaken : ℕ → (Bool → ℕ → ℕ) → (Bool → ℕ → ℕ) → ℕ → Type 0
+IsTaken m was now k = (body : Bool) × (r : ℕ) × (r < 504 * m) × (was body r ≡ 0) × (now body r ≡ 0 → ⊥) × IsPageSector (pool_slot m body r) k
 
 -- a sector of a slot that a map gives to a home
 abbrev pub IsLiveSlot : ℕ → (Bool → ℕ → ℕ) → ℕ → Type 0

@@ -3,7 +3,7 @@ use Rattle.std.specs.Prelude.{ℕ, ◌*◌, ◌<◌, ◌≤◌, ◌≡◌, ◌�
 use Rattle.disk_model.specs.{Moments.{AsksOnly}, Stop.{Image, NamesOnce}}
 use Rattle.disk_model.specs.declared.sector_disk.SectorDisk.{Ghosts}
 use Rattle.pool_journal.specs.Blocks.{IsNotedMap}
-use Rattle.pool_journal.specs.Commit.{GivesHomes, KeepsOthers, TakesFirst, IsDropped, IsTaken}
+use Rattle.pool_journal.specs.Commit.{GivesHomes, KeepsOthers, TakesFree, IsDropped, IsTaken}
 use Rattle.pool_journal.specs.Gates.{IsPoolGate}
 use Rattle.pool_journal.specs.Giving.{AreRising}
 use Rattle.pool_journal.specs.Journal.{IsPoolJournal, free_count}
@@ -31,9 +31,9 @@ pub record GivesInPool {S : Type 0} (s : Pages.Ghosts S) (journal : PoolJournal)
 abbrev pub IsPoolStaged : ℕ → Bool → (Bool → ℕ → ℕ) → List ℕ → ℕ → Type 0
 IsPoolStaged m second was homes k = (IsDropped m was homes k ⊎ IsLooseSlot m was k) ⊎ IsPoolMap m (not second) k
 
--- what it asks for in all when its map gives the slots so: of slots that were free, as many as it has homes
+-- what it asks for in all when its map gives the slots so: of slots that were free, those that it gives to homes
 abbrev pub IsPoolNoted : ℕ → Bool → (Bool → ℕ → ℕ) → (Bool → ℕ → ℕ) → List ℕ → ℕ → Type 0
-IsPoolNoted m second was now homes k = (IsDropped m was homes k ⊎ IsTaken m (not second) was (length homes) k) ⊎ IsNotedMap m (not second) now k
+IsPoolNoted m second was now homes k = (IsDropped m was homes k ⊎ IsTaken m was now k) ⊎ IsNotedMap m (not second) now k
 
 -- A commit up to its first sync, or beyond that: then first what is loose, and after a sync the gate. After whatever part of that a stop may spoil whole blocks.
 abbrev pub PoolCommitsInBlocks : {D : Type 0} → Ghosts D → ℕ → Bool → (Bool → ℕ → ℕ) → (Image → Type 0) → D → D → Type 0
@@ -45,8 +45,8 @@ module _ {D S : Type 0} (g : Ghosts D) (s : Pages.Ghosts S) where
   pub record StagesCommit (homes : List ℕ) (was now : PoolJournal) (old new : D) (from left : S) (result : Result (Unit {0}) CommitFault) : Type 0 where
     -- the next map gives slots that hold the new pages to the homes,
     pub gives : g.keeps_model new → s.keeps_model left → OnOk result ((thin : Bool → ℕ → ℕ) × GivesHomes was.sizes.blocks (entries_of was.map) thin (entries_of now.next) homes (s.pages from) (g.content old) (g.content new))
-    -- the first that are free, in their order, of which those come first of the body behind the other map;
-    pub placed : OnOk result (TakesFirst was.sizes.blocks (not was.second) (entries_of was.map) (entries_of now.next) homes)
+    -- which were free;
+    pub placed : OnOk result (TakesFree was.sizes.blocks (entries_of was.map) (entries_of now.next))
     -- under it, whatever the source gives, each other home stands as it did;
     pub others : g.keeps_model new → OnOk result (KeepsOthers was.sizes.blocks (entries_of was.map) (entries_of now.next) homes (g.content old) (g.content new))
     -- it gives none to a home that the device hasn't,
@@ -83,8 +83,8 @@ module _ {D S : Type 0} (g : Ghosts D) (s : Pages.Ghosts S) where
     -- the gate names the other map, which is the one in memory, and all of it is synced;
     pub second : OnOk result (now.second ≡ not was.second)
     pub synced : g.keeps_model new → OnOk result ((k : ℕ) → g.unsynced new k → ⊥)
-    -- it gives the homes the first slots that were free, in their order, of which those come first of the body behind it,
-    pub placed : OnOk result (TakesFirst was.sizes.blocks (not was.second) (entries_of was.map) (entries_of now.map) homes)
+    -- it gives homes only slots that were free, or that they had,
+    pub placed : OnOk result (TakesFree was.sizes.blocks (entries_of was.map) (entries_of now.map))
     -- and no home two where none had;
     pub single : IsSingle was.sizes.blocks (entries_of was.map) → OnOk result (IsSingle was.sizes.blocks (entries_of now.map))
     -- as many slots are free as a body has, where it took no more;

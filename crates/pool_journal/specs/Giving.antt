@@ -20,12 +20,13 @@ live_among names zero = 0
 live_among names (suc n) = live_among names n + (if names n == 0 then 0 else 1)
 
 -- Homes keep no slot:
-pub record Forgets (homes : List ℕ) (old new : SlotMap) (kept : ℕ) : Type 0 where
+pub record Forgets (homes : List ℕ) (old new : SlotMap) (gone : ℕ) : Type 0 where
   -- a slot that was given to one of them is free, and every other one is given to what it was;
   pub forgotten : (body : Bool) (r : ℕ) → entries_of new body r ≡ number_but homes (entries_of old body r)
   pub size : (blocks : ℕ) → IsMapOf blocks old → IsMapOf blocks new
-  -- so many slots are given to homes still.
-  pub counted : kept ≡ live_among (entries_of new false) (length new.first.items) + live_among (entries_of new true) (length new.second.items)
+  -- so many were given to one of them.
+  pub counted : (blocks : ℕ) → IsMapOf blocks old → gone + (live_among (entries_of new false) (504 * blocks) + live_among (entries_of new true) (504 * blocks))
+      ≡ live_among (entries_of old false) (504 * blocks) + live_among (entries_of old true) (504 * blocks)
 
 -- slot j of a list
 abbrev pub slot_at : List Slot → ℕ → Slot

@@ -5,9 +5,8 @@ use Rattle.pool_journal.specs.Maps.{entries_of, IsMapOf, IsEmptyMap, free_slots}
 use Rattle.pool_journal.specs.Sizes.{IsSized}
 use Rattle.pool_journal.specs.declared.map.SlotMap.{SlotMap}
 use Rattle.pool_journal.specs.declared.pool.PoolJournal.{PoolJournal}
-use Rattle.pool_journal.specs.declared.searches.TakenSlots.{TakenSlots}
+use Rattle.pool_journal.specs.declared.taking.TakenSlots.{TakenSlots}
 use Rattle.pool_journal.specs.declared.sizes.PoolSizes.{PoolSizes}
-use Rattle.pool_journal.specs.declared.slot.Slot.{Slot}
 
 -- how many slots a map gives to no home
 abbrev pub free_count : ℕ → (Bool → ℕ → ℕ) → ℕ
@@ -16,10 +15,6 @@ free_count m entries = length (free_slots m entries false true)
 -- A list of slots has room for all those of a pool of so many blocks.
 abbrev pub HasRoom : ℕ → TakenSlots → Type 0
 HasRoom m taken = 1008 * m ≤ vec_capacity taken.slots
-
--- the slots that a map gives to no home, first those of one body
-abbrev pub free_from : ℕ → (Bool → ℕ → ℕ) → Bool → List Slot
-free_from m entries first = free_slots m entries first (not first)
 
 -- A journal between two commits:
 pub record IsPoolJournal (journal : PoolJournal) : Type 0 where

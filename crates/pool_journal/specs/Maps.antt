@@ -1,5 +1,5 @@
 -- A map in memory.
-use Rattle.std.specs.Prelude.{ℕ, zero, suc, ◌*◌, ◌<◌, ◌≡◌, Bool, true, false, List, [], ◌∷◌, ◌++◌, length, get_or, if◌then◌else◌, ◌==◌}
+use Rattle.std.specs.Prelude.{ℕ, zero, suc, ◌*◌, ◌<◌, ◌≡◌, Bool, true, false, List, [], ◌∷◌, ◌++◌, length, get_or, nat_lt, if◌then◌else◌, ◌==◌}
 use Rattle.pool_journal.specs.declared.slot.Slot.{Slot}
 use Rattle.pool_journal.specs.declared.map.SlotMap.{SlotMap}
 
@@ -32,6 +32,14 @@ pub record GivesSlot (old new : SlotMap) (slot : Slot) (number : ℕ) : Type 0 w
 unfoldable pub free_among : (ℕ → ℕ) → Bool → ℕ → List Slot
 free_among names body zero = []
 free_among names body (suc n) = free_among names body n ++ (if names n == 0 then record { second = body; place = n } ∷ [] else [])
+
+-- names of places of which those before place p give a home
+abbrev pub behind : ℕ → (ℕ → ℕ) → ℕ → ℕ
+behind p names r = if nat_lt r p then 1 else names r
+
+-- the slots that are given to no home from place p of one body on, to its end, over the other body and round to that place
+abbrev pub slots_round : ℕ → (Bool → ℕ → ℕ) → Bool → Bool → ℕ → List Slot
+slots_round m entries first other p = free_among (behind p (entries first)) first (504 * m) ++ (free_among (entries other) other (504 * m) ++ free_among (entries first) first p)
 
 -- those of both bodies, first of one
 abbrev pub free_slots : ℕ → (Bool → ℕ → ℕ) → Bool → Bool → List Slot

@@ -1,12 +1,12 @@
 -- The steps of a commit over the journal of a pool: room is made, and free slots are filled.
-use Rattle.std.specs.Prelude.{ℕ, ◌<◌, ◌≤◌, ◌≡◌, Bool, not, List, length, take, Result, OnOk, IsErr, suc, get_or, ◌*◌, ◌+◌}
+use Rattle.std.specs.Prelude.{ℕ, ◌<◌, ◌≤◌, ◌≡◌, ◌⊎◌, Bool, List, length, Result, OnOk, IsErr, suc, get_or, ◌*◌, ◌+◌}
 use Rattle.disk_model.specs.{Moments.{AsksOnly}, Stop.{NamesOnce}}
 use Rattle.disk_model.specs.declared.sector_disk.DiskFault.{DiskFault}
 use Rattle.disk_model.specs.declared.sector_disk.SectorDisk.{Ghosts}
 use Rattle.pool_journal.specs.Commit.{thinned, IsThinned, IsDropped}
 use Rattle.pool_journal.specs.Filling.{HoldsSlots, IsFilled}
-use Rattle.pool_journal.specs.Giving.{AreFree, GivesFirst}
-use Rattle.pool_journal.specs.Journal.{IsPoolJournal, free_from, live_count}
+use Rattle.pool_journal.specs.Giving.{AreApart, AreFree, GivesFirst}
+use Rattle.pool_journal.specs.Journal.{IsPoolJournal, live_count}
 use Rattle.pool_journal.specs.Maps.{entries_of}
 use Rattle.pool_journal.specs.Pools.{IsLooseHome, IsLooseSlot, IsSingle}
 use Rattle.pool_journal.specs.declared.pool.PoolJournal.{PoolJournal}
@@ -27,7 +27,9 @@ pub record ChangesNext (was now : PoolJournal) : Type 0 where
 pub record MakesRoom {D : Type 0} (g : Ghosts D) (homes : List ℕ) (was now : PoolJournal) (old new : D) (result : Result (Unit {0}) DiskFault) : Type 0 where
   -- the next map is the map, thinned by them, and the others that lose their slots are copied home;
   pub thins : g.keeps_model new → OnOk result (IsThinned was.sizes.blocks (entries_of was.map) (entries_of now.next) homes (g.content old) (g.content new))
-  -- it gives slots to homes of the device alone,
+  -- it gives each slot to what the map gives it to, or to none,
+  pub keeps_slots : (body : Bool) (r : ℕ) → (entries_of now.next body r ≡ entries_of was.map body r) ⊎ (entries_of now.next body r ≡ 0)
+  -- to homes of the device alone,
   pub homes_are : (body : Bool) (r : ℕ) → entries_of now.next body r ≤ was.sizes.homes
   -- none to these, nor two to one where none had two,
   pub new_homes : (body : Bool) (r j : ℕ) → j < length homes → entries_of now.next body r ≡ suc (get_or homes j 0) → ⊥
@@ -47,21 +49,22 @@ pub record MakesRoom {D : Type 0} (g : Ghosts D) (homes : List ℕ) (was now : P
   pub failed : IsErr result → g.failures old < g.failures new
   pub calm : OnOk result (g.failures new ≡ g.failures old)
 
--- So many of the slots that a journal's map gives to no home, first of those of the body behind the other map:
-abbrev pub first_free_slots : ℕ → PoolJournal → List Slot
-first_free_slots n journal = take n (free_from journal.sizes.blocks (entries_of journal.map) (not journal.second))
+-- the slots that a journal has listed for a commit
+abbrev pub slots_of : PoolJournal → List Slot
+slots_of journal = journal.taken.slots.items
 
 -- Free slots are filled:
 pub record FillsSlots {D S : Type 0} (g : Ghosts D) (s : Pages.Ghosts S) (homes : List ℕ) (was now : PoolJournal) (old new : D) (from left : S) (result : Result (Unit {0}) CommitFault) : Type 0 where
-  -- the first of them, one for each home, hold the pages that the source gives, and no other sector is written or asked for;
+  -- those that are listed, one for each home, hold the pages that the source gives, and no other sector is written or asked for;
   pub fills : FillsBody g s (IsLooseSlot was.sizes.blocks (entries_of was.map)) (IsLooseSlot was.sizes.blocks (entries_of was.map))
-      (HoldsSlots was.sizes.blocks (first_free_slots (length homes) was) (length homes) (s.pages from) (g.content new)) old new from left result
+      (HoldsSlots was.sizes.blocks (slots_of now) (length homes) (s.pages from) (g.content new)) old new from left result
   pub open fills use *
-  pub asks_slots : AsksOnly g (IsFilled was.sizes.blocks (first_free_slots (length homes) was) (length homes)) old new
+  pub asks_slots : AsksOnly g (IsFilled was.sizes.blocks (slots_of now) (length homes)) old new
   -- the next map gives them to the homes,
-  pub given : OnOk result (GivesFirst (length homes) (first_free_slots (length homes) was) homes was.next now.next)
-  -- they are as many, and free,
-  pub long : length (first_free_slots (length homes) was) ≡ length homes
-  pub are : AreFree was.sizes.blocks (entries_of was.map) (first_free_slots (length homes) was)
+  pub given : OnOk result (GivesFirst (length homes) (slots_of now) homes was.next now.next)
+  -- they are as many, and free, and none is listed twice,
+  pub long : length (slots_of now) ≡ length homes
+  pub are : AreFree was.sizes.blocks (entries_of was.map) (slots_of now)
+  pub apart : AreApart (slots_of now)
   -- and nothing else of the journal changes.
   pub changes : ChangesNext was now

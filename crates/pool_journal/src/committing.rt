@@ -12,8 +12,8 @@ use disk_model::SectorDisk;
 use sync_journal::{CommitFault, PageSource};
 
 impl PoolJournal {
-    /// Makes the pages that the source gives durable, all at once: page `i` stands for home `homes[i]`. They take the first slots that the named map gives to no home,
-    /// in their order, of which those of the body behind the other map come first. Any other page keeps its slot, unless these and theirs are more than a body's
+    /// Makes the pages that the source gives durable, all at once: page `i` stands for home `homes[i]`. They take slots that the named map gives to no home,
+    /// in a row where one is that long, first of the body behind the other map. Any other page keeps its slot, unless these and theirs are more than a body's
     /// `places`: then all of them are copied home in the same sync. Then the gate names the other map. It takes 2 syncs.
     ///
     /// The homes rise, each is below the pool's `homes`, and there are `free_pages` of them at most: that is again the pool's `places` or more after a commit of no

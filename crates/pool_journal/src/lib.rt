@@ -38,6 +38,7 @@ mod recovering;
 mod searches;
 mod sizes;
 mod slot;
+mod taking;
 mod tidying;
 
 pub use pool::PoolJournal;

@@ -111,7 +111,7 @@ impl SlotMap {
 
     // How many blocks count: after them no slot is given to a home. The first one counts always.
     fn counted(&self) -> usize
-        requires { length self.now.first.items ≡ length self.now.second.items }
+        requires { (blocks : ℕ) × IsMapOf blocks self.now }
         ensures { (blocks : ℕ) → 1 ≤ blocks → IsMapOf blocks self.now → HasCount blocks (entries_of self.now) result }
     {
         counted_in(&self.first, &self.second)
@@ -147,18 +147,36 @@ fn block_of(counted: u32, first: &[u32], second: &[u32]) -> [u8; 4096]
 
 // How many blocks have a number above 0, or come before one that has; the first one counts always.
 fn counted_in(first: &[u32], second: &[u32]) -> usize
-    requires { length first.now ≡ length second.now }
+    requires same { length first.now ≡ length second.now }
+    requires size { (blocks : ℕ) × (length first.now ≡ 504 * blocks) }
     ensures some { 1 ≤ result }
     ensures most { (blocks : ℕ) → 1 ≤ blocks → length first.now ≡ 504 * blocks → result ≤ blocks }
     ensures rest { (r : ℕ) → 504 * result ≤ r → r < length first.now → (get_or first.now r 0 ≡ 0) × (get_or second.now r 0 ≡ 0) }
     ensures least { (result ≡ 1) ⊎ ((r : ℕ) × (504 * (result - 1) ≤ r) × (r < length first.now) × ((get_or first.now r 0 ≡ 0) × (get_or second.now r 0 ≡ 0) → ⊥)) }
 {
-    for place in (0..first.len()).rev() {
-        if first[place] > 0 || second[place] > 0 {
-            return place / SLOTS + 1;
+    for q in (0..first.len() / SLOTS).rev() {
+        if are_given(
+            &first[SLOTS * q..SLOTS * q + SLOTS],
+            &second[SLOTS * q..SLOTS * q + SLOTS],
+        ) {
+            return q + 1;
         }
     }
     1
+}
+
+// Whether a number above 0 stands among these, of which there are as many of both.
+fn are_given(first: &[u32], second: &[u32]) -> bool
+    requires { length first.now ≡ length second.now }
+    ensures some { result ≡ true → (i : ℕ) × (i < length first.now) × ((get_or first.now i 0 ≡ 0) × (get_or second.now i 0 ≡ 0) → ⊥) }
+    ensures none { result ≡ false → (i : ℕ) → i < length first.now → (get_or first.now i 0 ≡ 0) × (get_or second.now i 0 ≡ 0) }
+{
+    let mut found = false;
+    for i in 0..first.len() {
+        found |= first[i] > 0;
+        found |= second[i] > 0;
+    }
+    found
 }
 
 // Reads the numbers of a block for one body into those from a place on, and puts 0 for those that are too large.

@@ -11,9 +11,9 @@ use crate::filling::write_pages;
 use crate::forgetting::forget;
 use crate::giving::give_all;
 use crate::map::SlotMap;
-use crate::searches::TakenSlots;
 use crate::sizes::PoolSizes;
 use crate::slot::Slot;
+use crate::taking::TakenSlots;
 use disk_model::{DiskFault, SectorDisk};
 use std::alloc::{AllocError, Global};
 use std::mem::swap;
@@ -44,7 +44,7 @@ impl PoolJournal {
         let map = SlotMap::new(alloc, sizes.blocks)?;
         let next = SlotMap::new(alloc, sizes.blocks)?;
         let taken = TakenSlots::room(alloc, sizes)?;
-        let free = map.free_count();
+        let free = 2 * sizes.places() as usize;
         Ok(PoolJournal {
             sizes,
             second: false,
@@ -75,12 +75,15 @@ impl PoolJournal {
     pub(crate) fn begin(&mut self, homes: &[u32]) -> bool
         requires is { IsPoolJournal self.old }
         requires rising { AreRising homes.now }
+        requires low { (j : ℕ) → get_or homes.now j 0 < 2 ^ 30 }
         requires few { length homes.now < 2 ^ 32 }
         ensures { BeginsMap homes.now self.old self.new result }
     {
         self.next.copy_from(&self.map);
-        let kept = forget(&mut self.next, homes);
-        kept + homes.len() > self.sizes.places() as usize
+        let places = self.sizes.places() as usize;
+        let live = 2 * places - self.free;
+        let gone = forget(&mut self.next, homes);
+        live - gone + homes.len() > places
     }
 
     // Begins the map of the next commit, and where a body has too few slots for it, copies the pages of other homes home, so that it gives none.
@@ -92,6 +95,7 @@ impl PoolJournal {
         requires is { IsPoolJournal self.old }
         requires pool { HasPool D.SectorDisk self.old.sizes disk.old }
         requires rising { AreRising homes.now }
+        requires low { (j : ℕ) → get_or homes.now j 0 < 2 ^ 30 }
         requires few { length homes.now < 2 ^ 32 }
         ensures { MakesRoom D.SectorDisk homes.now self.old self.new disk.old disk.new result }
     {

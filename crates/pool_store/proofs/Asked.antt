@@ -1,10 +1,10 @@
 -- What a commit asks for, by the pages of its list.
-use Rattle.std.proofs.Common.{◌≡◌, ◌<◌, ◌+◌, ◌*◌, ℕ, zero, suc, Bool, not, List, length, get_or, Option, Some, None, refl, sym, ap, subst, ◌∙◌, ⊎_elim, inl, inr, arith}
+use Rattle.std.proofs.Common.{◌≡◌, ◌<◌, ◌+◌, ◌*◌, ℕ, zero, suc, Bool, List, length, get_or, Option, Some, None, refl, sym, ap, subst, ◌∙◌, ⊎_elim, inl, inr, arith}
 use Rattle.std.specs.Prelude.{is_some, if◌then◌else◌}
 use Rattle.std.proofs.lemmas.{List.{get_or-map, length-map}, Option.{same_Some, slice_get-get_or, slice_get_within}}
 use Rattle.vm_types.specs.declared.file.FilePage.{FilePage}
 use Rattle.sync_journal.{proofs.Images.{Means, place_means}, specs.Map.{home_rank}}
-use Rattle.pool_journal.specs.{Commit.{thinned, IsDropped, IsMoved, IsTaken}, Committing.{IsPoolNoted, IsPoolStaged}, Giving.{number_but}, Journal.{live_count}}
+use Rattle.pool_journal.specs.{Commit.{thinned, IsDropped, IsMoved}, Committing.{IsPoolNoted, IsPoolStaged}, Giving.{number_but}, Journal.{live_count}}
 use Rattle.pool_store.proofs.Ordered.{ArePlaced}
 use Rattle.pool_store.specs.{Places.{homes_of_pages, index_at, number_of}, Store.{home_of}, declared.{directory.Directory.{Directory}, room.Place.{Place}}}
 
@@ -59,5 +59,5 @@ module _ (directory : Directory) (list : List FilePage) (places : List Place) (h
 
   pub noted_listed : (m : ℕ) (second : Bool) (was now : Bool → ℕ → ℕ) (k : ℕ) → IsPoolNoted m second was now homes k → IsPoolNoted m second was now listed k
   noted_listed m second was now k = ⊎_elim
-      (λ bodies. inl (⊎_elim (λ moved. inl (dropped m was k moved)) (λ taken. inr (subst (λ n. IsTaken m (not second) was n k) (placed.size ∙ sym (length-map list number)) taken)) bodies))
+      (λ bodies. inl (⊎_elim (λ moved. inl (dropped m was k moved)) (λ taken. inr taken) bodies))
       (λ map. inr map)

@@ -45,6 +45,40 @@ fn a_commit_takes_as_many_pages_as_are_free(rt: HostRuntime) -> Result<(), Fail>
 }
 
 #[test]
+fn a_commit_takes_slots_in_a_row(rt: HostRuntime) -> Result<(), Fail> {
+    let mut pool = Pool::new(rt.alloc(), 504)?;
+    let mut all = Vec::new(rt.alloc());
+    let mut odd = Vec::new(rt.alloc());
+    for home in 0..504 {
+        all.push(home)?;
+        if home % 2 == 1 {
+            odd.push(home)?;
+        }
+    }
+    // All of body 1, and then every other page of them to the first half of body 0.
+    let mut source = Filled::with(1);
+    expect(pool.commit(&all, &mut source)?.is_ok(), "all pages")?;
+    expect(pool.commit(&odd, &mut source)?.is_ok(), "every other")?;
+    let (runs, writes) = (pool.disk.runs, pool.disk.disk.writes());
+    // No two free slots of body 1 lie side by side now, so these are of body 0.
+    source.byte = 2;
+    expect(pool.commit(&[1, 2, 3, 4, 5], &mut source)?.is_ok(), "five")?;
+    equal(&rt, pool.disk.runs, runs.saturating_add(3));
+    expect(pool.holds(16 + 8 + 8 * 252, 2), "behind the first half")?;
+    // That left three slots free where body 0 begins, too few for these.
+    source.byte = 3;
+    let done = pool.commit(&[10, 11, 12, 13, 14], &mut source)?;
+    expect(done.is_ok(), "five more")?;
+    equal(&rt, pool.disk.runs, runs.saturating_add(6));
+    expect(pool.holds(16 + 8 + 8 * 257, 3), "behind these")?;
+    // Each page took eight writes, and so did a map.
+    let more = 2 * (5 * 8 + 8 + 1);
+    equal(&rt, pool.disk.disk.writes(), writes.saturating_add(more));
+    equal(&rt, pool.bytes([0, 1, 10, 14]), [1, 2, 3, 3]);
+    Ok(())
+}
+
+#[test]
 fn a_source_that_fails_leaves_the_pages_before(rt: HostRuntime) -> Result<(), Fail> {
     let mut pool = Pool::new(rt.alloc(), 4)?;
     let mut source = Filled::with(1);

@@ -3,7 +3,7 @@ ghost use Rattle.std.specs.Prelude.{◌≡◌, IfOk};
 ghost use Rattle.stores.specs.Store.{IsReadyStore};
 
 use batches::check_page;
-use disk_model::{DiskFault, SectorDisk, SimDisk};
+use disk_model::{SectorDisk, SimDisk};
 use std::alloc::Global;
 use std::fmt::Debug;
 use std::process::Abort;
@@ -45,15 +45,7 @@ pub(crate) fn sector_with(bytes: &[(usize, u8)]) -> [u8; 512] {
     sector
 }
 
-/// Writes a sector, where the device has it.
-pub(crate) fn put(disk: &mut SimDisk, n: u64, bytes: &[u8; 512]) -> Result<(), DiskFault> {
-    if n < disk.sectors() {
-        disk.write(n, bytes)?;
-    }
-    Ok(())
-}
-
-/// A device of so many sectors of zeros but for these, as a stop leaves it.
+/// A device of so many sectors of zeros but for those of these that it has, as a stop leaves it.
 pub(crate) fn image(
     alloc: Global,
     sectors: u64,
@@ -61,7 +53,9 @@ pub(crate) fn image(
 ) -> Result<SimDisk, Fail> {
     let mut disk = SimDisk::new(alloc, sectors)?;
     for (n, bytes) in changes {
-        put(&mut disk, *n, bytes)?;
+        if *n < disk.sectors() {
+            disk.write(*n, bytes)?;
+        }
     }
     disk.sync()?;
     Ok(disk.left(alloc, &[])?)

@@ -1,9 +1,8 @@
 //! Stores on a device in memory.
 ghost use Rattle.std.specs.Prelude.{OnOk, replicate, if◌then◌else◌};
-ghost use Rattle.stores.specs.Commit.{ArePages};
-ghost use Rattle.stores.specs.Store.{files_of, free_of, IsReadyStore};
+ghost use Rattle.stores.specs.Store.{IsReadyStore};
 
-use crate::bench::{equal, expect, first_byte, holds, image, opened, put, repeated, sector_with};
+use crate::bench::{equal, expect, first_byte, holds, image, opened, repeated, sector_with};
 use batches::check_pages;
 use disk_model::{SectorDisk, SimDisk};
 use file_store::{FileStore, OpenFault, stops_in_a_row};
@@ -46,17 +45,6 @@ impl PageSource for Filled {
     }
 }
 
-/// Fails where no commit may take these pages.
-fn check(store: &Store<SimDisk>, pages: &[FilePage]) -> Result<(), Fail>
-    requires { IsReadyStore ⟦<SimDisk as SectorDisk>⟧ store.now }
-    ensures { OnOk result (ArePages (files_of store.now) (free_of store.now) pages.now) }
-{
-    match check_pages(store, store.free_pages(), pages) {
-        Ok(()) => Ok(()),
-        Err(fault) => Err(Fail::new(format_args!("the pages: {fault}"))),
-    }
-}
-
 /// Commits these pages: whether it succeeds, or the source fails.
 fn commits(
     store: &mut Store<SimDisk>,
@@ -66,7 +54,9 @@ fn commits(
     requires { IsReadyStore ⟦<SimDisk as SectorDisk>⟧ store.old }
     ensures { OnOk result (IsReadyStore ⟦<SimDisk as SectorDisk>⟧ store.new) }
 {
-    check(store, pages)?;
+    if let Err(fault) = check_pages(store, store.free_pages(), pages) {
+        return Err(Fail::new(format_args!("the pages: {fault}")));
+    }
     match store.commit(pages, source) {
         Ok(()) => Ok(true),
         Err(CommitFault::Source) => Ok(false),
@@ -189,7 +179,9 @@ fn opens_and_reads(rt: HostRuntime) -> Result<(), Fail> {
             (18, page),
         ],
     )?;
-    put(&mut disk, 8203, &[0x61; 512])?;
+    if disk.sectors() > 8203 {
+        disk.write(8203, &[0x61; 512])?;
+    }
     let mut store = opened(rt.alloc(), disk)?;
     let facts = |length, read_only| Some(FileInfo { length, read_only });
     let infos = [
@@ -219,6 +211,7 @@ fn opens_and_reads(rt: HostRuntime) -> Result<(), Fail> {
         Some(0x5a),
     );
     stops_in_a_row(store.disk());
+    sync_journal::stops_in_a_row(store.disk());
     // One sync at first, one of the home and one of the gate: all of it is there after a stop.
     let disk = store.into_disk();
     equal(&rt, (disk.writes(), disk.syncs()), (1 + 9, 3));

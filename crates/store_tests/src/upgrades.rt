@@ -1,6 +1,6 @@
 //! Stores of layout 1 made anew in layout 2. Their bytes are worked out by hand.
 use crate::bench::{
-    check_left, equal, expect, first_byte, holds, image, opened, put, repeated, sector_with,
+    check_left, equal, expect, first_byte, holds, image, opened, repeated, sector_with,
 };
 use disk_model::{SectorDisk, SimDisk};
 use file_store::{UpgradeFault, upgrade};
@@ -29,20 +29,18 @@ const DIRECTORY: [(usize, u8); 5] = [(0, 1), (3, 0x80), (5, 0x10), (11, 0xc0), (
 /// A device with so many sectors behind the homes' first, with an old store, and with these sectors. Page 0 of the body is `5a`,
 /// home 1 begins with `61`, and home 0 with `62` and with a byte behind its file's end. The gate is closed.
 fn old_store(alloc: Global, more: u64, changes: &[(u64, [u8; 512])]) -> Result<SimDisk, Fail> {
-    let mut disk = SimDisk::new(alloc, OLD_HOMES + more.min(100))?;
+    let mut sectors = Vec::new(alloc);
     for n in 0..8 {
-        put(&mut disk, OLD_BODY + n, &[0x5a; 512])?;
+        sectors.push((OLD_BODY + n, [0x5a; 512]))?;
     }
-    put(&mut disk, 0, &repeated(b"FAMSYNC1"))?;
-    put(&mut disk, 1, &sector_with(&DIRECTORY))?;
-    let first = sector_with(&[(0, 0x62), (1, 0x77)]);
-    put(&mut disk, OLD_HOMES, &first)?;
-    put(&mut disk, OLD_HOMES + 8, &sector_with(&[(0, 0x61)]))?;
-    for (n, bytes) in changes {
-        put(&mut disk, *n, bytes)?;
-    }
-    disk.sync()?;
-    Ok(disk.left(alloc, &[])?)
+    sectors.extend_from_slice(&[
+        (0, repeated(b"FAMSYNC1")),
+        (1, sector_with(&DIRECTORY)),
+        (OLD_HOMES, sector_with(&[(0, 0x62), (1, 0x77)])),
+        (OLD_HOMES + 8, sector_with(&[(0, 0x61)])),
+    ])?;
+    sectors.extend_from_slice(changes)?;
+    image(alloc, OLD_HOMES + more.min(100), sectors.as_slice())
 }
 
 /// What faults the devices of an upgrade have: the calls that fail, and the write of the new device that stops it, if any.

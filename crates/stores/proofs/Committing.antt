@@ -68,6 +68,7 @@ module _ {D S : Type 0} (g : Ghosts D) (s : SourceGhosts S) (list : List FilePag
       asks = e.asks;
       single = λ none. on_ok_weaker result (λ is. tt) e.ready;
       asks_device = e.asks_device;
+      asks_staged = e.asks_device;
       once = e.once;
       touches = e.touches;
       causes = e.causes;
@@ -131,6 +132,7 @@ module _ {D S : Type 0} (g : Ghosts D) (s : SourceGhosts S) (list : List FilePag
       asks = e.asks;
       single = λ one. on_ok_weaker result (λ single. subst (λ (x : PoolSizes). IsSingle x.blocks (entries_of new.journal.map)) (sym e.sizes) single) (e.single one);
       asks_device = e.asks_device;
+      asks_staged = e.asks_staged;
       once = e.once;
       touches = e.touches;
       causes = e.causes;

@@ -1,5 +1,5 @@
 -- What mark and kind of an image say.
-use Rattle.stores.proofs.Names.{ℕ, ◌≡◌, ◌≢◌, ◌∙◌, List, Bool, true, false, refl, ap, arith, Image, bytes_eq-Decides}
+use Rattle.stores.proofs.Names.{ℕ, ◌≡◌, ◌∙◌, List, true, ap, arith, Image, bytes_eq-Decides}
 use Rattle.std.specs.Str.{bytes_eq}
 use Rattle.directories.{proofs.Sectors.{first_number, second_number, first_reads, second_reads}, specs.Kinds.{IsKind}}
 use Rattle.file_store.specs.Layout.{pool_mark}
@@ -10,13 +10,6 @@ is_marked image mark = (bytes_eq-Decides (image 0) pool_mark).1 mark
 
 pub mark_of : (image : Image) → is_pool image ≡ true → image 0 ≡ pool_mark
 mark_of image is = (bytes_eq-Decides (image 0) pool_mark).0 is
-
-pub not_marked : (image : Image) → image 0 ≢ pool_mark → is_pool image ≡ false
-not_marked image other = from (is_pool image) refl
-  where
-    from : (b : Bool) → is_pool image ≡ b → is_pool image ≡ false
-    from false is = is
-    from true is = absurd (other (mark_of image is))
 
 -- the two numbers of a kind
 pub blocks_are : (m d : ℕ) (image : Image) → IsKind m d (image 1) → map_blocks image ≡ m

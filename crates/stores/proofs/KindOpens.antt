@@ -6,7 +6,7 @@ use Rattle.sync_journal.specs.{Commit.{one_journal}, Layout.{page_limit, IsRecov
 use Rattle.file_store.specs.Opened as KindOpened
 use Rattle.file_store.specs.Standing as InFiles
 use Rattle.file_store.specs.declared.{store.FileStore.{FileStore}, faults.OpenFault.{OpenFault as KindFault, TheVariants.{Device as KindDevice, BadLayout as KindLayout, BadJournal as KindJournal}}}
-use Rattle.stores.specs.{Faults.{of_kind}, Images.{is_pool, ImageSays, says, says_by}, Opened.{RunsOpening, OpensFrom, RefusesToOpen}, Resumed.{RunsResuming, ResumesFrom, RefusesToResume}}
+use Rattle.stores.specs.{Faults.{of_kind}, Images.{is_pool, ImageSays, says, says_by}, Opened.{RunsOpening, OpensWith, RefusesToOpen}, Resumed.{RunsResuming, ResumesWith, RefusesToResume}}
 use Rattle.stores.specs.declared.{faults.OpenFault.TheVariants.{Device, BadLayout, BadJournal, Memory}, store.Store.TheVariants.{Journal}}
 
 -- what the words of layout 2 say of an image without the mark of a pool, it says
@@ -62,6 +62,7 @@ module _ {D : Type 0} (g : Ghosts D) (old : D) (unmarked : g.keeps_model old →
     outside = λ keeps. in_kind (λ said. (k : ℕ) → said.IsOutside k → g.content new k ≡ content k) sectors content (unmarked (kept keeps))
         (left_outside g sectors old new (touches keeps));
     any_moment = λ keeps synced. weaker g old new _ _ (λ image. as_kind sectors content image (unmarked (kept keeps))) (moment keeps synced);
+    blocks = λ keeps synced marked. absurd (true≢false (sym marked ∙ unmarked (kept keeps)));
     most_moment = λ keeps synced. most_stays g (IsRecovered sectors) old new (λ image left. only_now old image (kept keeps) left)
         (λ k low. synced k) (front_unwritten sectors) (touches keeps);
   }
@@ -73,7 +74,7 @@ module _ {D : Type 0} (g : Ghosts D) (old : D) (unmarked : g.keeps_model old →
       (left_outside g sectors old new (touches keeps) 0 (inl (omega arith))) ∙ unmarked (kept keeps)
 
   -- the store itself,
-  pub opens : (store : FileStore D) → KindOpened.OpensFrom g old store → OpensFrom g old (Journal store)
+  pub opens : (store : FileStore D) → KindOpened.OpensFrom g old store → OpensWith g Nothing old (Journal store)
   opens store found = record {
     run = runs store.disk found.size found.kept found.later found.asks found.touches found.closed_unwritten found.any_moment;
     ready = (found.ready, still_unmarked store.disk found.kept found.touches);
@@ -81,10 +82,12 @@ module _ {D : Type 0} (g : Ghosts D) (old : D) (unmarked : g.keeps_model old →
     good_layout = λ keeps. in_kind (λ said. said.HasBadLayout → ⊥) sectors content (unmarked (found.kept keeps)) (found.good_layout keeps);
     good_journal = λ keeps. in_kind (λ said. said.HasBadJournal → ⊥) sectors content (unmarked (found.kept keeps)) (found.good_journal keeps);
     now = λ keeps image may. as_kind sectors content image (unmarked (found.kept keeps)) (found.now keeps image may);
+    homes = found.homes;
     synced = found.synced;
     most = λ keeps. in_kind (λ said. page_limit ≡ said.most) sectors content (unmarked (found.kept keeps)) refl;
     carried = λ keeps. found.closed;
     emptied = λ keeps none. in_kind (λ said. said.IsClosed) sectors (g.content store.disk) (still_unmarked store.disk found.kept found.touches keeps) (found.emptied keeps);
+    once = λ keeps. tt;
     calm = found.calm;
   }
 
@@ -108,7 +111,7 @@ module _ {D : Type 0} (g : Ghosts D) (old : D) (unmarked : g.keeps_model old →
   of_run new run = record { run = run; pool_unwritten = λ keeps marked. absurd (true≢false (sym marked ∙ unmarked (run.kept keeps))) }
 
   -- whether it is found
-  pub resumes : (store : FileStore D) → KindOpened.OpensFrom g old store → ResumesFrom g old (Journal store)
+  pub resumes : (store : FileStore D) → KindOpened.OpensFrom g old store → ResumesWith g Nothing old (Journal store)
   resumes store found =
       let o = opens store found in
       record {
@@ -118,10 +121,12 @@ module _ {D : Type 0} (g : Ghosts D) (old : D) (unmarked : g.keeps_model old →
         good_layout = o.good_layout;
         good_journal = o.good_journal;
         now = o.now;
+        homes = o.homes;
         synced = o.synced;
         named = λ keeps. found.closed;
         free = λ keeps. in_kind (λ said. page_limit ≡ said.free) sectors content (unmarked (found.kept keeps)) refl;
         most = o.most;
+        once = λ keeps. tt;
         calm = o.calm;
       }
 

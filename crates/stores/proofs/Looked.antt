@@ -1,14 +1,15 @@
 -- An opening after a look at the mark, or a store taken up after it, a device without a sector, and stops in a row.
-use Rattle.stores.proofs.Names.{ℕ, zero, suc, Bool, true, false, Result, Ok, Err, ◌≡◌, ◌⊎◌, ◌∙◌, inl, refl, sym, ap, subst, arith, stays, then, wider}
+use Rattle.stores.proofs.Names.{ℕ, zero, suc, Bool, true, false, not, Result, Ok, Err, ◌≡◌, ◌⊎◌, ◌∙◌, ⊎_elim, inl, inr, refl, sym, ap, subst, arith, stays, then, wider}
 use Rattle.stores.proofs.Names.{Ghosts, Image, AsksOnly, LeavesNow, LeavesOnly, MayLeave, Nothing, Touches, RunsOnDevice}
 use Rattle.std.specs.Prelude.{MatchResult}
-use Rattle.disk_model.proofs.Moments.{asks_named, asks_none, asks_then, joined}
+use Rattle.disk_model.{proofs.{Moments.{asks_named, asks_none, asks_then, joined}, Naming.{once_named, once_still}}, specs.Stop.{NamesOnce}}
 use Rattle.sync_journal.proofs.Sectors.{reads_unsynced, same_content, so_before, while_read}
 use Rattle.file_store.specs.Standing.IsBadLayoutIn.{TooSmall as FewSectors}
-use Rattle.pool_store.specs.{Pools.{IsBadPool.{TooSmall}}, Resume.{HasPoolHead}}
-use Rattle.stores.specs.Images.{free_pages, is_pool, most_pages, says_by, IsBadLayout, IsBadJournal, IsClosed, IsOutside, IsAskedToOpen, IsWrittenToOpen, SaysMostOf, StandsAs}
-use Rattle.stores.specs.{Marks.{LooksAtMark}, Opened.{IsCarriedOut, LeftInARow, OpensFrom, RefusesToOpen, RunsOpening}, Resumed.{IsAsNamed, ResumesFrom, RefusesToResume, RunsResuming}, Store.{disk_of, kept_of, free_of, always_free_in}}
-use Rattle.stores.specs.declared.{faults.OpenFault.{OpenFault, TheVariants.{Device, BadLayout}}, store.Store.{Store}}
+use Rattle.pool_journal.specs.{Pools.{pool_named}, Recovering.{RestoresInBlocks}}
+use Rattle.pool_store.specs.{Opened.{ReadsThenRenews}, Pools.{IsBadPool.{TooSmall}}, Resume.{HasPoolHead, IsReadOf}}
+use Rattle.stores.specs.Images.{free_pages, is_pool, map_blocks, most_pages, says_by, IsBadLayout, IsBadJournal, IsClosed, IsOutside, IsAskedToOpen, IsWrittenToOpen, SaysMostOf, StandsAs}
+use Rattle.stores.specs.{Commit.{KeepsHomesIn}, Marks.{LooksAtMark}, Opened.{IsCarriedOut, LeftInARow, OpensFrom, OpensOnce, OpensWith, RefusesToOpen, RunsOpening}, Resumed.{IsAsNamed, ResumesFrom, ResumesOnce, ResumesWith, RefusesToResume, RunsResuming}, Store.{disk_of, kept_of, free_of, always_free_in}}
+use Rattle.stores.specs.declared.{faults.OpenFault.{OpenFault, TheVariants.{Device, BadLayout}}, store.{Store.{Store}, Store.TheVariants.{Journal, Pool}}}
 
 -- Every layout has sectors before its homes, so that a device without one has no store, whatever its image.
 none_fits : (in_pool : Bool) (sectors : ℕ) (image : Image) → sectors ≡ 0 → (says_by in_pool sectors image).HasBadLayout
@@ -33,6 +34,7 @@ module _ {D : Type 0} (g : Ghosts D) (old : D) (only_now : (d : D) (image : Imag
     outside = λ keeps k out. same_content g old new (run.touches keeps) k;
     any_moment = λ keeps synced. while_read g old new (run.touches keeps) (StandsAs (g.sector_count old) (g.content old)) (λ files pages stands. stands)
         (λ image left. only_now old image (run.kept keeps) left) synced;
+    blocks = λ keeps synced marked. inl (run.touches keeps);
     most_moment = λ keeps synced. while_read g old new (run.touches keeps) (SaysMostOf (g.sector_count old) (g.content old)) refl
         (λ image left. only_now old image (run.kept keeps) left) synced;
   }
@@ -104,12 +106,32 @@ module _ {D : Type 0} (g : Ghosts D) (old : D) (only_now : (d : D) (image : Imag
           any_moment = λ keeps synced. joined g old mid new (StandsAs (g.sector_count old) (g.content old)) (first.any_moment (run.kept keeps) synced)
               (before (λ n image. LeavesOnly g mid new (StandsAs n image)) (run.kept keeps)
               (run.any_moment keeps (λ k u. synced k (reads_unsynced g old mid (look.run.touches (run.kept keeps)) k u))));
+          blocks = λ keeps synced marked. ⊎_elim
+              (λ none. inl (then g Nothing old mid new (look.run.touches (run.kept keeps)) none))
+              (λ anew. inr (anew.0, then g Nothing old mid anew.0 (look.run.touches (run.kept keeps)) anew.1, anew.2))
+              (before (λ n image. is_pool image ≡ true → RestoresInBlocks g (map_blocks image) (not (pool_named image)) (StandsAs n image) mid new) (run.kept keeps)
+              (run.blocks keeps (λ k u. synced k (reads_unsynced g old mid (look.run.touches (run.kept keeps)) k u))) marked);
           most_moment = λ keeps synced. joined g old mid new (SaysMostOf (g.sector_count old) (g.content old)) (first.most_moment (run.kept keeps) synced)
               (before (λ n image. LeavesOnly g mid new (SaysMostOf n image)) (run.kept keeps)
               (run.most_moment keeps (λ k u. synced k (reads_unsynced g old mid (look.run.touches (run.kept keeps)) k u))));
         }
 
-    opens_since : (store : Store D) → OpensFrom g mid store → OpensFrom g old store
+    -- after whatever was looked at before no sector but the mark is looked at once more
+    then_looked : (looked : D) → NamesOnce Nothing (g.asked mid) (g.asked looked) → NamesOnce (λ k. k ≡ 0) (g.asked old) (g.asked looked)
+    then_looked looked none = once_still (λ k. k ≡ 0) (g.asked old) (g.asked mid) (g.asked looked)
+        (once_named (λ k. k ≡ 0) (λ k. k ≡ 0) (g.asked old) (g.asked mid) (λ k at. at) look.once) (λ k. ⊎_elim (λ same. same) (λ named. absurd named.0) (none.each k))
+
+    once_since : (store : Store D) → g.keeps_model mid → OpensOnce g Nothing mid store → OpensOnce g (λ k. k ≡ 0) old store
+    once_since (Journal store) kept once = tt
+    once_since (Pool store) kept once =
+        (once.0, then_looked once.0 once.1, before (λ n image. ReadsThenRenews g store image once.0 store.disk) kept once.2)
+
+    resumed_once : (store : Store D) → g.keeps_model mid → ResumesOnce g Nothing mid store → ResumesOnce g (λ k. k ≡ 0) old store
+    resumed_once (Journal store) kept once = tt
+    resumed_once (Pool store) kept once =
+        (once.0, then_looked once.0 once.1, before (λ n image. NamesOnce (IsReadOf store image) (g.asked once.0) (g.asked store.disk)) kept once.2)
+
+    opens_since : (store : Store D) → OpensWith g Nothing mid store → OpensFrom g old store
     opens_since store o = record {
       run = run_since (disk_of store) o.run;
       ready = o.ready;
@@ -117,10 +139,12 @@ module _ {D : Type 0} (g : Ghosts D) (old : D) (only_now : (d : D) (image : Imag
       good_layout = λ keeps. before (λ n image. IsBadLayout n image → ⊥) (o.run.kept keeps) (o.good_layout keeps);
       good_journal = λ keeps. before (λ n image. IsBadJournal n image → ⊥) (o.run.kept keeps) (o.good_journal keeps);
       now = λ keeps. before (λ n image. LeavesNow g (disk_of store) (StandsAs n image)) (o.run.kept keeps) (o.now keeps);
+      homes = λ keeps. before (λ n image. LeavesNow g (disk_of store) (KeepsHomesIn (kept_of store) n image)) (o.run.kept keeps) (o.homes keeps);
       synced = o.synced;
       most = λ keeps. before (λ n image. always_free_in (kept_of store) ≡ most_pages n image) (o.run.kept keeps) (o.most keeps);
       carried = λ keeps. before (λ n image. IsCarriedOut (kept_of store) image) (o.run.kept keeps) (o.carried keeps);
       emptied = λ keeps. before (λ n image. is_pool image ≡ false → IsClosed n (g.content (disk_of store))) (o.run.kept keeps) (o.emptied keeps);
+      once = λ keeps. once_since store (o.run.kept keeps) (o.once keeps);
       calm = o.calm ∙ look.cause.calm;
     }
 
@@ -138,7 +162,7 @@ module _ {D : Type 0} (g : Ghosts D) (old : D) (only_now : (d : D) (image : Imag
       memory = λ keeps is. before HasPoolHead (r.err_run.kept keeps) (r.memory keeps is);
     }
 
-    pub since_look : (r : Result (Store D) (OpenFault × D)) → MatchResult r (λ store. OpensFrom g mid store) (λ e. RefusesToOpen g mid e.0 e.1)
+    pub since_look : (r : Result (Store D) (OpenFault × D)) → MatchResult r (λ store. OpensWith g Nothing mid store) (λ e. RefusesToOpen g mid e.0 e.1)
         → MatchResult r (λ store. OpensFrom g old store) (λ e. RefusesToOpen g old e.0 e.1)
     since_look (Ok store) opened = opens_since store opened
     since_look (Err e) refused = refuses_since e.0 e.1 refused
@@ -151,7 +175,7 @@ module _ {D : Type 0} (g : Ghosts D) (old : D) (only_now : (d : D) (image : Imag
           (before (λ n image. is_pool image ≡ true → Touches g Nothing mid new) (r.run.kept keeps) (r.pool_unwritten keeps) marked);
     }
 
-    resumes_since : (store : Store D) → ResumesFrom g mid store → ResumesFrom g old store
+    resumes_since : (store : Store D) → ResumesWith g Nothing mid store → ResumesFrom g old store
     resumes_since store r = record {
       resuming = resuming_since (disk_of store) r.resuming;
       ready = r.ready;
@@ -159,14 +183,16 @@ module _ {D : Type 0} (g : Ghosts D) (old : D) (only_now : (d : D) (image : Imag
       good_layout = λ keeps. before (λ n image. IsBadLayout n image → ⊥) (r.resuming.run.kept keeps) (r.good_layout keeps);
       good_journal = λ keeps. before (λ n image. IsBadJournal n image → ⊥) (r.resuming.run.kept keeps) (r.good_journal keeps);
       now = λ keeps. before (λ n image. LeavesNow g (disk_of store) (StandsAs n image)) (r.resuming.run.kept keeps) (r.now keeps);
+      homes = λ keeps. before (λ n image. LeavesNow g (disk_of store) (KeepsHomesIn (kept_of store) n image)) (r.resuming.run.kept keeps) (r.homes keeps);
       synced = r.synced;
       named = λ keeps. before (λ n image. IsAsNamed (kept_of store) image) (r.resuming.run.kept keeps) (r.named keeps);
       free = λ keeps. before (λ n image. free_of store ≡ free_pages n image) (r.resuming.run.kept keeps) (r.free keeps);
       most = λ keeps. before (λ n image. always_free_in (kept_of store) ≡ most_pages n image) (r.resuming.run.kept keeps) (r.most keeps);
+      once = λ keeps. resumed_once store (r.resuming.run.kept keeps) (r.once keeps);
       calm = r.calm ∙ look.cause.calm;
     }
 
-    pub resumed_since_look : (r : Result (Store D) (OpenFault × D)) → MatchResult r (λ store. ResumesFrom g mid store) (λ e. RefusesToResume g mid e.0 e.1)
+    pub resumed_since_look : (r : Result (Store D) (OpenFault × D)) → MatchResult r (λ store. ResumesWith g Nothing mid store) (λ e. RefusesToResume g mid e.0 e.1)
         → MatchResult r (λ store. ResumesFrom g old store) (λ e. RefusesToResume g old e.0 e.1)
     resumed_since_look (Ok store) resumed = resumes_since store resumed
     resumed_since_look (Err e) r = record { refused = refuses_since e.0 e.1 r.refused; resuming = resuming_since e.1 r.resuming }

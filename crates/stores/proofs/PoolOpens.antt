@@ -1,20 +1,20 @@
 -- A store of a pool that is opened, or taken up as it stands, in the words of stores of any layout.
 use Rattle.stores.proofs.{Front.{most_stays}, Heads.{blocks_are, pages_are, same_blocks, same_mark, same_pages}, Says.{IsHeaded, as_pool, head_of}}
 use Rattle.stores.proofs.Names.{ℕ, ◌≡◌, ◌⊎◌, ◌∙◌, ◌<◌, ◌≤◌, ◌*◌, true, false, List, Option, Some, None, refl, sym, ap, subst, ⊎_elim, inl, inr, arith, bytes_eq-Decides}
-use Rattle.stores.proofs.Names.{Bool, Image, MayLeave, AsksOnly, LeavesNow, Touches, Nothing, RunsOnDevice, Ghosts, weaker, wider, true≢false}
+use Rattle.stores.proofs.Names.{Bool, not, Image, MayLeave, AsksOnly, LeavesNow, Touches, Nothing, RunsOnDevice, Ghosts, weaker, wider, true≢false}
 use Rattle.std.{proofs.lemmas.{Bool.{cases_Bool, cases_lt}, Option.{none-some, same_Some}}, specs.{Option.{option_map}, Str.{bytes_eq}}}
 use Rattle.vm_types.specs.{Limits.{file_limit, file_page_limit}, declared.file.FileInfo.{FileInfo}}
-use Rattle.disk_model.proofs.Moments.{asks_wider}
+use Rattle.disk_model.proofs.{Moments.{asks_wider}, Naming.{once_none}}
 use Rattle.directories.specs.{Kinds.{IsKind, kind_sector}, Layouts.{entry_in}, declared.entry.Entry.{Entry}}
 use Rattle.file_store.specs.Standing.{AreBounded}
-use Rattle.sync_journal.proofs.Runs.{of_more}
-use Rattle.pool_journal.{proofs.{Counted.{free_and_live}, Loose.{map_high, map_low}, Taken.{live_same}}, specs.{Journal.{free_count}, Maps.{entries_of}, Pools.{pool, pool_entry, pool_home_count, pool_named}}}
+use Rattle.sync_journal.proofs.{Runs.{of_more}, Shared.{blocks_weaker}}
+use Rattle.pool_journal.{proofs.{Counted.{free_and_live}, Loose.{map_high, map_low}, Taken.{live_same}}, specs.{Gates.{IsPoolGate}, Journal.{free_count}, Maps.{entries_of}, Pools.{pool, pool_entry, pool_home_count, pool_named, IsPoolMap}, Recovering.{RestoresInBlocks}}}
 use Rattle.pool_store.specs.{Files.{info_in, info_of, page_in, StandsAs as PoolStandsAs}, Opened.{OpensPool, RefusesPool, IsWrittenToOpen}}
 use Rattle.pool_store.proofs.OneKind.{bad_by_all}
 use Rattle.pool_store.specs.{Pools.{files_in_pool, HaveBounds, IsBadPool, IsBadPool.{OtherKind}}, Store.{layout_of}}
 use Rattle.pool_store.specs.Resume.{IsAskedToOpen, IsAskedOf, IsAskedIn, IsNoPool, FindsStore, ResumesStore, RefusesToResume as RefusesPoolResume}
 use Rattle.pool_store.specs.declared.{faults.OpenFault.{OpenFault as PoolFault, TheVariants.{Device as PoolDevice, BadLayout as PoolLayout, Memory as PoolMemory}}, store.PoolStore.{PoolStore}}
-use Rattle.stores.specs.{Faults.{of_pool}, Images.{ImageSays, directory_pages, free_pages, is_pool, map_blocks, most_pages, says, says_by, IsBadJournal, IsBadLayout, StandsAs}, Store.{files_of}, Opened.{OpensFrom, RefusesToOpen, RunsOpening}, Resumed.{ResumesFrom, RefusesToResume}}
+use Rattle.stores.specs.{Faults.{of_pool}, Images.{ImageSays, directory_pages, free_pages, is_pool, map_blocks, most_pages, says, says_by, IsBadJournal, IsBadLayout, StandsAs}, Store.{files_of}, Opened.{OpensWith, RefusesToOpen, RunsOpening}, Resumed.{ResumesWith, RefusesToResume}}
 use Rattle.stores.specs.declared.{faults.OpenFault.TheVariants.{Device, BadLayout, BadJournal, Memory}, store.Store.TheVariants.{Pool}}
 
 -- what an image says by the layout of stores with maps of m blocks and a directory of d pages, on a device of so many sectors and n homes
@@ -133,6 +133,32 @@ module _ {D : Type 0} (g : Ghosts D) (old : D)
   abbrev image : Image
   image = g.content old
 
+  -- Where a stop may spoil whole blocks it stands for the same by the words of both.
+  in_blocks : (m d n : ℕ) → n ≡ pool_home_count m sectors → (new : D) → IsHeaded m d image
+      → RestoresInBlocks g m (not (pool_named image)) (PoolStandsAs (files_in_pool m d n) sectors image) old new
+      → RestoresInBlocks g (map_blocks image) (not (pool_named image)) (StandsAs sectors image) old new
+  in_blocks m d n homes new head run = subst (λ x. RestoresInBlocks g x second (StandsAs sectors image) old new) (sym head.blocks)
+      (⊎_elim (λ none. inl none) (λ anew. inr (
+        anew.0,
+        anew.1,
+        ⊎_elim
+            (λ map. inl (blocks_weaker g (IsPoolMap m second) Was Is anew.0 new more map))
+            (λ named. inr (named.0, blocks_weaker g (IsPoolMap m second) Was Is anew.0 named.0 more named.1, blocks_weaker g IsPoolGate Was Is named.0 new more named.2))
+            anew.2,
+      )) run)
+    where
+      second : Bool
+      second = not (pool_named image)
+
+      Was : Image → Type 0
+      Was = PoolStandsAs (files_in_pool m d n) sectors image
+
+      Is : Image → Type 0
+      Is = StandsAs sectors image
+
+      more : (left : Image) → Was left → Is left
+      more left stays = as_pool m d n sectors homes image left head stays
+
   -- The store is found:
   module _ (store : PoolStore D) (o : IsFound g old store) where
     abbrev m : ℕ
@@ -178,6 +204,7 @@ module _ {D : Type 0} (g : Ghosts D) (old : D)
       closed_unwritten = λ keeps closed. o.closed_unwritten keeps (of_head m d n sectors homes image (head keeps) (λ (words : ImageSays). words.IsClosed) closed);
       any_moment = λ keeps still. weaker g old disk (PoolStandsAs (layout_of store) sectors image) (StandsAs sectors image)
           (λ left stays. as_pool m d n sectors homes image left (head keeps) stays) (o.finds.stays.through.any_moment keeps still);
+      blocks = λ keeps still marked. in_blocks m d n homes disk (head keeps) (o.finds.stays.blocks keeps still (kind keeps) image (λ files pages stands. stands));
       most_moment = λ keeps still. most_stays g ((pool m n).IsRecovered image sectors) old disk (λ left since. only_now old left (o.run.kept keeps) since)
           (λ k low. still k) (front_unwritten m n sectors image) (o.run.touches keeps);
     }
@@ -206,7 +233,7 @@ module _ {D : Type 0} (g : Ghosts D) (old : D)
         (same_free m (entries_of store.journal.map) (pool_entry m n (pool_named image) image) (o.finds.map keeps))
 
   -- It is opened,
-  pub pool_opens : (store : PoolStore D) → OpensPool g old store → OpensFrom g old (Pool store)
+  pub pool_opens : (store : PoolStore D) → OpensPool g old store → OpensWith g Nothing old (Pool store)
   pool_opens store o =
       let found : IsFound g old store = record { finds = o.finds; run = o.run; asks = o.asks; closed_unwritten = o.closed_unwritten } in
       record {
@@ -216,15 +243,17 @@ module _ {D : Type 0} (g : Ghosts D) (old : D)
         good_layout = good store found;
         good_journal = no_bad_journal store found;
         now = stands store found;
+        homes = o.finds.homes;
         synced = o.finds.synced;
         most = most store found;
         carried = λ keeps. (o.finds.map keeps, o.anew keeps);
         emptied = λ keeps none. absurd (true≢false (sym (head store found keeps).mark ∙ none));
+        once = λ keeps. (old, once_none Nothing (g.asked old) (g.asked old) (λ k. refl), o.once keeps);
         calm = o.calm;
       }
 
   -- or taken up as it stands.
-  pub pool_resumes : (store : PoolStore D) → ResumesStore g old store → ResumesFrom g old (Pool store)
+  pub pool_resumes : (store : PoolStore D) → ResumesStore g old store → ResumesWith g Nothing old (Pool store)
   pool_resumes store r =
       let found : IsFound g old store = record {
         finds = r.finds;
@@ -239,10 +268,12 @@ module _ {D : Type 0} (g : Ghosts D) (old : D)
         good_layout = good store found;
         good_journal = no_bad_journal store found;
         now = stands store found;
+        homes = r.finds.homes;
         synced = r.finds.synced;
         named = λ keeps. (r.named keeps, r.finds.map keeps);
         free = free store found;
         most = most store found;
+        once = λ keeps. (old, once_none Nothing (g.asked old) (g.asked old) (λ k. refl), r.once keeps);
         calm = r.calm;
       }
 
@@ -283,6 +314,10 @@ module _ {D : Type 0} (g : Ghosts D) (old : D)
           (kind_cases blocks pages (image 1));
       any_moment = λ keeps still. weaker g old new (PoolStandsAs (files_in_pool blocks pages count) sectors image) (StandsAs sectors image)
           (λ left stays. as_pool blocks pages count sectors refl image left (headed keeps) stays) ((r.err_stays blocks pages).through.any_moment keeps still);
+      blocks = λ keeps still marked. ⊎_elim
+          (λ is. in_blocks blocks pages count refl new (headed keeps) ((r.err_stays blocks pages).blocks keeps still is image (λ files pages stands. stands)))
+          (λ none. inl (r.bad_unwritten keeps (λ x y. OtherKind (λ is. none (same_kind x y image is)))))
+          (kind_cases blocks pages (image 1));
       most_moment = λ keeps still. most_stays g (IsWrittenToOpen sectors image) old new (λ left since. only_now old left (r.err_run.kept keeps) since) (λ k low. still k)
           (λ k low written. front_unwritten written.0 (pool_home_count written.0 sectors) sectors image k low written.3) (r.err_run.touches keeps);
     }

@@ -10,7 +10,7 @@ use Rattle.pool_store.specs.Files as InPool
 use Rattle.pool_store.specs.Tidying as PoolTidied
 use Rattle.pool_store.specs.{Pools.{files_in_pool}, Store.{IsReadyPool}}
 use Rattle.pool_store.specs.declared.store.PoolStore.{PoolStore}
-use Rattle.stores.proofs.{Front.{most_committed}, PoolOpens.{by_head}, RoomMade.{none_freed, now_too}, Says.{from_pool, head_of, to_pool, left_of_pool}}
+use Rattle.stores.proofs.{Front.{most_committed}, PoolOpens.{by_head}, RoomMade.{files_in_blocks, none_freed, now_too}, Says.{from_pool, head_of, to_pool, left_of_pool}}
 use Rattle.stores.specs.{Commit.{KeepsHomesIn}, Images.{ImageSays, IsClosed, StandsFor}, Rooms.{FreesSlots, TidiesStore}, Store.{kept_of, IsReadyStore}}
 use Rattle.stores.specs.declared.store.Store.TheVariants.{Journal, Pool}
 
@@ -73,8 +73,10 @@ module _ {D : Type 0} (g : Ghosts D)
       ready = e.ready;
       stands = λ keeps files pages left. now_too g counts_now old.disk new.disk (StandsFor sectors files pages) keeps (moment keeps files pages left);
       any_moment = moment;
+      blocks = λ keeps. files_in_blocks g (Pool old) new.disk ready (e.kept keeps) (e.homes_blocks keeps);
       homes = λ keeps. now_too g counts_now old.disk new.disk (KeepsHomesIn (kept_of (Pool old)) sectors (g.content old.disk)) keeps (e.homes_moment keeps);
       homes_moment = e.homes_moment;
+      homes_blocks = e.homes_blocks;
       most_moment = λ keeps. most_committed g (Pool old) new.disk only_now ready (e.kept keeps) (e.touches keeps);
       always = ap (λ (sizes : PoolSizes). 504 * sizes.blocks) e.sizes;
       files = ap inr e.files;
@@ -82,6 +84,7 @@ module _ {D : Type 0} (g : Ghosts D)
       kept = e.kept;
       single = λ was. on_ok_weaker result (in_sizes (λ sizes. IsSingle sizes.blocks (entries_of new.journal.map))) e.single;
       asks = e.asks_device;
+      asks_tidied = e.asks_tidied;
       once = e.once;
       touches = e.touches;
       cause = e.cause;

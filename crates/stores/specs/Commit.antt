@@ -7,7 +7,7 @@ use Rattle.sync_journal.specs.{Commit.{one_journal}, Journal.{live_homes}, Layou
 use Rattle.sync_journal.specs.declared.faults.CommitFault.{CommitFault}
 use Rattle.sync_journal.specs.declared.faults.CommitFault.TheVariants.{Source}
 use Rattle.sync_journal.specs.declared.source.PageSource.{Ghosts as SourceGhosts}
-use Rattle.pool_journal.specs.{Committing.{PoolCommitsInBlocks}, Maps.{entries_of}, Pools.{pool, IsSingle}, Recovering.{state_of}}
+use Rattle.pool_journal.specs.{Committing.{IsPoolStaged, PoolCommitsInBlocks}, Gates.{IsPoolGate}, Maps.{entries_of}, Pools.{pool, IsSingle}, Recovering.{state_of}}
 use Rattle.file_store.specs.{Commit.{Changes}, Standing.{IsPageOf}}
 use Rattle.file_store.specs.Store as InFiles
 use Rattle.pool_store.specs.{Commit.{PutsHomes as PoolPuts}, Places.{homes_of_pages as pool_homes}, Pools.{files_in_pool}}
@@ -35,6 +35,12 @@ KeepsHomesIn (OfPool directory journal) sectors old new = HomesStandAs (pool jou
 
 abbrev pub PutsHomesOrNone : StoreKept → ℕ → List FilePage → (ℕ → List ℕ) → Image → Image → Type 0
 PutsHomesOrNone kept sectors list given old new = KeepsHomesIn kept sectors old new ⊎ PutsHomesIn kept sectors list given old new
+
+-- a sector that a commit of these pages may ask for: of a pool slots in use only where these and the pages are more than a body has
+abbrev pub IsStagedIn : StoreKept → List FilePage → ℕ → Type 0
+IsStagedIn (OfJournal directory journal) list k = one_journal.IsCommitted (live_homes journal) k
+IsStagedIn (OfPool directory journal) list k = IsPoolGate k
+    ⊎ IsPoolStaged journal.sizes.blocks journal.second (entries_of journal.map) (pool_homes directory list) k
 
 -- no home has two slots of a pool
 abbrev pub IsSingleIn : StoreKept → Type 0
@@ -103,10 +109,11 @@ module _ {D S : Type 0} (g : Ghosts D) (s : SourceGhosts S) where
     pub size : g.sector_count (disk_of new) ≡ g.sector_count (disk_of old)
     pub kept : g.keeps_model (disk_of new) → g.keeps_model (disk_of old)
     pub single : IsSingleIn (kept_of old) → OnOk result (IsSingleIn (kept_of new))
-    -- Pages are asked of the source, and of the device no sector but those that a commit uses, none more often than it takes; no other is written than
-    -- those that it writes.
+    -- Pages are asked of the source, and of the device no sector but those that a commit uses, and of these no more than one of these pages takes, none
+    -- more often than that; no other is written than those that it writes.
     pub asks : Asks s given given'
     pub asks_device : AsksOnly g (IsUsedIn (kept_of old)) (disk_of old) (disk_of new)
+    pub asks_staged : AsksOnly g (IsStagedIn (kept_of old) list) (disk_of old) (disk_of new)
     pub once : AsksOnceIn g (kept_of old) list (disk_of old) (disk_of new)
     pub touches : g.keeps_model (disk_of new) → Touches g (IsCommittedIn (kept_of old)) (disk_of old) (disk_of new)
     -- A fault is told exactly where the one that it names failed.

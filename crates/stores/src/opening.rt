@@ -1,8 +1,9 @@
 //! A store found on a device.
 ghost use Rattle.std.specs.Prelude.{◌≡◌, ℕ, true, false, MatchResult};
 ghost use Rattle.disk_model.specs.Stop.{Image};
+ghost use Rattle.disk_model.specs.Moments.{Nothing};
 ghost use Rattle.stores.specs.Images.{is_pool, SaysMostOf, StandsAs};
-ghost use Rattle.stores.specs.Opened.{OpensFrom, RefusesToOpen, LeftInARow};
+ghost use Rattle.stores.specs.Opened.{OpensFrom, OpensWith, RefusesToOpen, LeftInARow};
 
 use crate::faults::OpenFault;
 use crate::marks::has_pool;
@@ -48,7 +49,7 @@ pub fn stops_in_a_row<D: SectorDisk>(_disk: &D)
 /// Opens a store of layout 4.
 fn open_pool<D: SectorDisk>(alloc: Global, disk: D) -> Result<Store<D>, (OpenFault, D)>
     requires { D.keeps_model disk → is_pool (D.content disk) ≡ true }
-    ensures { MatchResult result (λ store. OpensFrom D.SectorDisk disk store) (λ e. RefusesToOpen D.SectorDisk disk e.0 e.1) }
+    ensures { MatchResult result (λ store. OpensWith D.SectorDisk Nothing disk store) (λ e. RefusesToOpen D.SectorDisk disk e.0 e.1) }
 {
     match PoolStore::open(alloc, disk) {
         Ok(store) => Ok(Store::Pool(store)),
@@ -59,7 +60,7 @@ fn open_pool<D: SectorDisk>(alloc: Global, disk: D) -> Result<Store<D>, (OpenFau
 /// Opens a store of layout 2.
 fn open_journal<D: SectorDisk>(disk: D) -> Result<Store<D>, (OpenFault, D)>
     requires { D.keeps_model disk → is_pool (D.content disk) ≡ false }
-    ensures { MatchResult result (λ store. OpensFrom D.SectorDisk disk store) (λ e. RefusesToOpen D.SectorDisk disk e.0 e.1) }
+    ensures { MatchResult result (λ store. OpensWith D.SectorDisk Nothing disk store) (λ e. RefusesToOpen D.SectorDisk disk e.0 e.1) }
 {
     match FileStore::open(disk) {
         Ok(store) => Ok(Store::Journal(store)),

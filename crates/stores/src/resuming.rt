@@ -1,7 +1,8 @@
 //! A store taken up as it stands.
 ghost use Rattle.std.specs.Prelude.{◌≡◌, ℕ, true, false, MatchResult};
+ghost use Rattle.disk_model.specs.Moments.{Nothing};
 ghost use Rattle.stores.specs.Images.{is_pool};
-ghost use Rattle.stores.specs.Resumed.{ResumesFrom, RefusesToResume};
+ghost use Rattle.stores.specs.Resumed.{ResumesFrom, ResumesWith, RefusesToResume};
 
 use crate::faults::OpenFault;
 use crate::marks::has_pool;
@@ -43,7 +44,7 @@ impl<D: SectorDisk> Store<D> {
 fn resume_pool<D: SectorDisk>(alloc: Global, disk: D) -> Result<Store<D>, (OpenFault, D)>
     requires synced { D.keeps_model disk → (k : ℕ) → D.unsynced disk k → ⊥ }
     requires marked { D.keeps_model disk → is_pool (D.content disk) ≡ true }
-    ensures { MatchResult result (λ store. ResumesFrom D.SectorDisk disk store) (λ e. RefusesToResume D.SectorDisk disk e.0 e.1) }
+    ensures { MatchResult result (λ store. ResumesWith D.SectorDisk Nothing disk store) (λ e. RefusesToResume D.SectorDisk disk e.0 e.1) }
 {
     match PoolStore::resume(alloc, disk) {
         Ok(store) => Ok(Store::Pool(store)),
@@ -55,7 +56,7 @@ fn resume_pool<D: SectorDisk>(alloc: Global, disk: D) -> Result<Store<D>, (OpenF
 fn resume_journal<D: SectorDisk>(disk: D) -> Result<Store<D>, (OpenFault, D)>
     requires synced { D.keeps_model disk → (k : ℕ) → D.unsynced disk k → ⊥ }
     requires unmarked { D.keeps_model disk → is_pool (D.content disk) ≡ false }
-    ensures { MatchResult result (λ store. ResumesFrom D.SectorDisk disk store) (λ e. RefusesToResume D.SectorDisk disk e.0 e.1) }
+    ensures { MatchResult result (λ store. ResumesWith D.SectorDisk Nothing disk store) (λ e. RefusesToResume D.SectorDisk disk e.0 e.1) }
 {
     match FileStore::resume(disk) {
         Ok(store) => Ok(Store::Journal(store)),

@@ -1,43 +1,48 @@
-//! What the tests share: a store of two files on a device in memory, of a layout, its pages, and what a stop leaves of it.
-ghost use Rattle.std.specs.Prelude.{◌≡◌, ◌<◌, ℕ, true, IfOk, IsTrue, IsFalse, OnOk, Some, get_or, if◌then◌else◌, length, replicate, slice_get};
-ghost use Rattle.file_store.specs.Standing.{IsPageOf};
-ghost use Rattle.vm_types.specs.declared.file.FilePage.{FilePage};
-ghost use Rattle.stores.specs.Store.{disk_of, files_of, free_of, IsReadyStore};
-ghost use Rattle.stores.specs.Commit.{ArePages};
+//! What the tests share: devices whose bytes are worked out by hand, a store of three files of each layout, its pages, and what a stop leaves of it.
+ghost use Rattle.std.specs.Prelude.{◌≡◌, ◌<◌, ℕ, true, IsErrOf, OnOk, get_or, if◌then◌else◌, length, replicate};
+ghost use Rattle.stores.specs.NewStores.{IsSizedNew};
+ghost use Rattle.stores.specs.Store.{disk_of, IsReadyStore};
 
+use batches::{BadBatch, check_page, check_pages};
 use disk_model::{SectorDisk, SimDisk};
 use file_store::FileSource;
-use std::alloc::Global;
 use std::fmt::Debug;
 use std::process::Abort;
-use std::test::Fail;
-use stores::{OpenFault, Store};
+use stores::{NewStore, OpenFault, Store, format, image_bytes};
 use sync_journal::{CommitFault, PageSource, SourceFault};
 use vm_types::FilePage;
 
-/// A layout of stores.
-#[derive(Clone, Copy)]
-pub(crate) enum Layout {
-    Two,
-    Four,
-}
+/// The files of a new store: one of no bytes, one of a byte more than a page, and one of three bytes that may only be read.
+pub(crate) const FILES: [FileSource<&'static [u8]>; 3] = [
+    FileSource {
+        read_only: false,
+        length: 0,
+        bytes: None,
+    },
+    FileSource {
+        read_only: false,
+        length: 4097,
+        bytes: Some(&[b'a'; 4097]),
+    },
+    FileSource {
+        read_only: true,
+        length: 3,
+        bytes: Some(b"bbb"),
+    },
+];
 
-/// The pages of the files: two of a file of a byte more than a page, and one of three bytes that may only be read.
-pub(crate) const FIRST: FilePage = FilePage { file: 0, page: 0 };
+/// Their pages.
+pub(crate) const FIRST: FilePage = FilePage { file: 1, page: 0 };
 
-pub(crate) const LAST: FilePage = FilePage { file: 0, page: 1 };
+pub(crate) const LAST: FilePage = FilePage { file: 1, page: 1 };
 
-pub(crate) const LOCKED: FilePage = FilePage { file: 1, page: 0 };
+pub(crate) const LOCKED: FilePage = FilePage { file: 2, page: 0 };
 
-/// Fails where something does not hold.
-pub(crate) fn expect(holds: bool, otherwise: &str) -> Result<(), Fail>
-    ensures { OnOk result (holds ≡ true) }
+/// Ends the test where something does not hold.
+pub(crate) fn expect(rt: &impl Abort, holds: bool, otherwise: &str)
+    ensures { holds ≡ true }
 {
-    if holds {
-        Ok(())
-    } else {
-        Err(Fail::new(format_args!("{otherwise}")))
-    }
+    assert!(rt; holds, "{otherwise}");
 }
 
 /// Ends the test where the value isn't the one that is wanted. A test that said `assert_eq!` itself would be proved to end well at each place.
@@ -45,11 +50,11 @@ pub(crate) fn equal<T: PartialEq + Debug + Drop>(rt: &impl Abort, got: T, want: 
     assert_eq!(rt; got, want);
 }
 
-/// Each page is its byte of these, 4,096 times. Where `fails` is set, the first call fails.
+/// Each page is its byte of these, 4,096 times. The first one of `!` fails once.
 #[derive(Drop)]
-struct Filled<'a> {
-    bytes: &'a [u8],
-    fails: bool,
+pub(crate) struct Filled<'a> {
+    pub(crate) bytes: &'a [u8],
+    pub(crate) has_failed: bool,
 }
 
 impl PageSource for Filled<'_> {
@@ -57,7 +62,7 @@ impl PageSource for Filled<'_> {
 
     ghost gives = { λ s i. i < length s.bytes.now };
 
-    ghost failures = { λ s. if s.fails then 0 else 1 };
+    ghost failures = { λ s. if s.has_failed then 1 else 0 };
 
     ghost keeps_model = { λ _. Unit {0} };
 
@@ -68,8 +73,8 @@ impl PageSource for Filled<'_> {
     ghost goes_on = { λ _ _ _ _ _. tt };
 
     fn page(&mut self, i: usize, to: &mut [u8; 4096]) -> Result<(), SourceFault> {
-        if self.fails {
-            self.fails = false;
+        if self.bytes[i] == b'!' && !self.has_failed {
+            self.has_failed = true;
             return Err(SourceFault);
         }
         *to = [self.bytes[i]; 4096];
@@ -77,202 +82,165 @@ impl PageSource for Filled<'_> {
     }
 }
 
-/// How many sectors a store of the two files has, as the formats have it.
-fn sectors(layout: Layout) -> u64 {
-    match layout {
-        Layout::Two => 8195 + 8 * 3,
-        // 4 home pages of the directory are before those of the files, behind maps of one block.
-        Layout::Four => 16 + 8080 + 8 * (4 + 3),
-    }
+/// A device with a new store of the files.
+pub(crate) fn made(rt: &(impl AllocGlobal + Abort), store: NewStore) -> SimDisk
+    requires { IsSizedNew store }
+{
+    let mut files = FILES;
+    let sectors = image_bytes(store, &files) / 512;
+    let mut disk = SimDisk::new(rt.alloc(), sectors).expect(rt, "memory");
+    format(&mut disk, store, &mut files).expect(rt, "a store");
+    disk
 }
 
-/// A device with a new store of two files.
-pub(crate) fn made(alloc: Global, layout: Layout) -> Result<SimDisk, Fail> {
-    let letters: &[u8] = &[b'a'; 4097];
-    let locked: &[u8] = b"bbb";
-    let mut sources = [
-        FileSource {
-            read_only: false,
-            length: 4097,
-            bytes: Some(letters),
-        },
-        FileSource {
-            read_only: true,
-            length: 3,
-            bytes: Some(locked),
-        },
-    ];
-    let mut disk = SimDisk::new(alloc, sectors(layout))?;
-    match layout {
-        Layout::Two => file_store::format(&mut disk, &mut sources)?,
-        Layout::Four => pool_store::format(&mut disk, 1, &mut sources)?,
+/// A sector of one word, 64 times.
+pub(crate) fn repeated(word: &[u8; 8]) -> [u8; 512] {
+    let mut sector = [0; 512];
+    for i in 0..512 {
+        sector[i] = word[i % 8];
     }
-    Ok(disk)
+    sector
 }
 
-/// What a stop leaves of a device, with these bytes in each unsynced sector, or else those that were last synced.
-pub(crate) fn left(
-    alloc: Global,
-    disk: &SimDisk,
-    filling: Option<[u8; 512]>,
-) -> Result<SimDisk, Fail> {
-    let mut chosen = Vec::new(alloc);
-    if let Some(bytes) = filling {
-        for n in 0..disk.sectors() {
-            chosen.push((n, bytes))?;
+/// A sector that holds these bytes at these places, and is zero elsewhere.
+pub(crate) fn sector_with(bytes: &[(usize, u8)]) -> [u8; 512] {
+    let mut sector = [0; 512];
+    for (at, byte) in bytes {
+        if *at < 512 {
+            sector[*at] = *byte;
         }
     }
-    Ok(disk.left(alloc, chosen.as_slice())?)
+    sector
 }
 
-/// Opens the store on a device.
-pub(crate) fn opened(alloc: Global, disk: SimDisk) -> Result<Store<SimDisk>, Fail>
-    ensures { IfOk result (λ store. IsReadyStore ⟦<SimDisk as SectorDisk>⟧ store) }
-{
-    match Store::open(alloc, disk) {
-        Ok(store) => Ok(store),
-        Err((fault, _)) => Err(Fail::from(fault)),
+/// What a device holds: the bytes of a sector, or a page of one byte from that sector on.
+#[derive(Clone, Copy)]
+pub(crate) enum Part {
+    Sector(u64, [u8; 512]),
+    Page(u64, u8),
+}
+
+/// A device of so many sectors of zeros but for these, as a stop leaves it.
+pub(crate) fn image(rt: &(impl AllocGlobal + Abort), sectors: u64, parts: &[Part]) -> SimDisk {
+    let mut disk = SimDisk::new(rt.alloc(), sectors).expect(rt, "memory");
+    for part in parts {
+        let is_done = match *part {
+            Part::Sector(n, bytes) => n < disk.sectors() && disk.write(n, &bytes).is_ok(),
+            Part::Page(n, byte) => {
+                n < 0x10_0000
+                    && n + 8 <= disk.sectors()
+                    && disk.write_page(n, &[byte; 4096]).is_ok()
+            }
+        };
+        expect(rt, is_done, "no such sector");
     }
+    disk.sync().expect(rt, "a sync");
+    left(rt, &disk, None)
 }
 
-/// Takes the store up on a device that is handed on.
-pub(crate) fn resumed(alloc: Global, disk: SimDisk) -> Result<Store<SimDisk>, Fail>
-    requires { (k : ℕ) → ⟦<SimDisk as SectorDisk>⟧.unsynced disk k → ⊥ }
-    ensures { IfOk result (λ store. IsReadyStore ⟦<SimDisk as SectorDisk>⟧ store) }
-{
-    match Store::resume(alloc, disk) {
-        Ok(store) => Ok(store),
-        Err((fault, _)) => Err(Fail::from(fault)),
-    }
-}
-
-/// Why the store on a device is not opened, and how many calls of the device were writes then.
-pub(crate) fn refusal(alloc: Global, disk: SimDisk) -> (Option<OpenFault>, u64) {
-    match Store::open(alloc, disk) {
-        Ok(store) => (None, store.into_disk().writes()),
-        Err((fault, disk)) => (Some(fault), disk.writes()),
-    }
-}
-
-/// Whether a page begins inside its file.
-fn is_page(store: &Store<SimDisk>, page: FilePage) -> bool
-    ensures { IsTrue result → IsPageOf (files_of store.now) page.file page.page }
-{
-    match store.file(page.file) {
-        Some(info) => 4096 * u64::from(page.page) < u64::from(info.length),
-        None => false,
-    }
-}
-
-/// Whether a list has this page.
-fn is_among(pages: &[FilePage], page: FilePage) -> bool
-    ensures { IsFalse result → (j : ℕ) → slice_get pages.now j ≡ Some page → ⊥ }
-{
-    for other in pages {
-        if *other == page {
-            return true;
-        }
-    }
-    false
-}
-
-/// Whether pages begin inside their files, none twice.
-fn are_pages(store: &Store<SimDisk>, pages: &[FilePage]) -> bool
-    ensures inside { IsTrue result → (i : ℕ) (p : FilePage) → slice_get pages.now i ≡ Some p → IsPageOf (files_of store.now) p.file p.page }
-    ensures distinct { IsTrue result → (i j : ℕ) (p : FilePage) → i < j → slice_get pages.now i ≡ Some p → slice_get pages.now j ≡ Some p → ⊥ }
-{
-    for i in 0..pages.len() {
-        if !is_page(store, pages[i]) || is_among(&pages[..i], pages[i]) {
+/// Whether the sectors of a device hold these bytes.
+pub(crate) fn holds(disk: &SimDisk, wanted: &[(u64, [u8; 512])]) -> bool {
+    for (n, bytes) in wanted {
+        if *n >= disk.sectors() || disk.sector(*n) != bytes {
             return false;
         }
     }
     true
 }
 
-/// Fails where no commit may take these pages.
-fn check(store: &Store<SimDisk>, pages: &[FilePage]) -> Result<(), Fail>
-    requires { IsReadyStore ⟦<SimDisk as SectorDisk>⟧ store.now }
-    ensures { OnOk result (ArePages (files_of store.now) (free_of store.now) pages.now) }
+/// What a stop leaves of a device, with these bytes in each unsynced sector, or else those that were last synced.
+pub(crate) fn left(
+    rt: &(impl AllocGlobal + Abort),
+    disk: &SimDisk,
+    filling: Option<[u8; 512]>,
+) -> SimDisk
+    ensures { (k : ℕ) → ⟦<SimDisk as SectorDisk>⟧.unsynced result k → ⊥ }
 {
-    if pages.is_empty() || pages.len() > store.free_pages() {
-        return Err(Fail::new("no page, or too many"));
+    let mut chosen = Vec::new(rt.alloc());
+    if let Some(bytes) = filling {
+        for n in 0..disk.sectors() {
+            chosen.push((n, bytes)).expect(rt, "memory");
+        }
     }
-    if !are_pages(store, pages) {
-        return Err(Fail::new("pages that no commit may take"));
-    }
-    Ok(())
+    disk.left(rt.alloc(), chosen.as_slice())
+        .expect(rt, "memory")
 }
 
-/// Commits these pages, each of its byte: whether it succeeds, or the device fails.
-pub(crate) fn commits(
+/// Opens the store on a device.
+pub(crate) fn opened(rt: &(impl AllocGlobal + Abort), disk: SimDisk) -> Store<SimDisk>
+    ensures { IsReadyStore ⟦<SimDisk as SectorDisk>⟧ result }
+{
+    match Store::open(rt.alloc(), disk) {
+        Ok(store) => store,
+        Err((fault, _)) => panic!(rt; "{fault}"),
+    }
+}
+
+/// Takes the store up on a device that is handed on.
+pub(crate) fn resumed(rt: &(impl AllocGlobal + Abort), disk: SimDisk) -> Store<SimDisk>
+    requires { (k : ℕ) → ⟦<SimDisk as SectorDisk>⟧.unsynced disk k → ⊥ }
+    ensures { IsReadyStore ⟦<SimDisk as SectorDisk>⟧ result }
+{
+    match Store::resume(rt.alloc(), disk) {
+        Ok(store) => store,
+        Err((fault, _)) => panic!(rt; "{fault}"),
+    }
+}
+
+/// Why the store on a device is not opened, and how many calls of the device were writes then.
+pub(crate) fn refusal(rt: &impl AllocGlobal, disk: SimDisk) -> (Option<OpenFault>, u64) {
+    match Store::open(rt.alloc(), disk) {
+        Ok(store) => (None, store.into_disk().writes()),
+        Err((fault, disk)) => (Some(fault), disk.writes()),
+    }
+}
+
+/// Commits these pages, each of its byte. A page of `!` makes the source fail.
+pub(crate) fn commit(
+    rt: &impl Abort,
     store: &mut Store<SimDisk>,
     pages: &[FilePage],
     bytes: &[u8],
-) -> Result<bool, Fail>
-    requires { IsReadyStore ⟦<SimDisk as SectorDisk>⟧ store.old }
-    ensures ready { IfOk result (λ done. IsTrue done → IsReadyStore ⟦<SimDisk as SectorDisk>⟧ store.new) }
-    ensures synced { IfOk result (λ done. IsTrue done → (k : ℕ) → ⟦<SimDisk as SectorDisk>⟧.unsynced (disk_of store.new) k → ⊥) }
+) -> Result<(), CommitFault>
+    requires ready { IsReadyStore ⟦<SimDisk as SectorDisk>⟧ store.old }
+    ensures done { OnOk result (IsReadyStore ⟦<SimDisk as SectorDisk>⟧ store.new) }
+    ensures told { IsErrOf result CommitFault.Source → IsReadyStore ⟦<SimDisk as SectorDisk>⟧ store.new }
+    ensures synced { OnOk result ((k : ℕ) → ⟦<SimDisk as SectorDisk>⟧.unsynced (disk_of store.new) k → ⊥) }
 {
-    if pages.len() != bytes.len() {
-        return Err(Fail::new("not a byte for each page"));
-    }
-    check(store, pages)?;
-    match store.commit(
-        pages,
-        &mut Filled {
-            bytes,
-            fails: false,
-        },
-    ) {
-        Ok(()) => Ok(true),
-        Err(CommitFault::Device) => Ok(false),
-        Err(CommitFault::Source) => Err(Fail::new("the source failed")),
-    }
-}
-
-/// Commits the first page from a source that fails: whether this is told.
-pub(crate) fn is_told(store: &mut Store<SimDisk>) -> Result<bool, Fail>
-    requires { IsReadyStore ⟦<SimDisk as SectorDisk>⟧ store.old }
-    ensures { IfOk result (λ told. IsTrue told → IsReadyStore ⟦<SimDisk as SectorDisk>⟧ store.new) }
-{
-    check(store, &[FIRST])?;
-    match store.commit(
-        &[FIRST],
-        &mut Filled {
-            bytes: b"z",
-            fails: true,
-        },
-    ) {
-        Err(CommitFault::Source) => Ok(true),
-        Ok(()) | Err(CommitFault::Device) => Ok(false),
+    expect(rt, pages.len() == bytes.len(), "not a byte for each page");
+    let mut source = Filled {
+        bytes,
+        has_failed: false,
+    };
+    match check_pages(store, store.free_pages(), pages) {
+        Err(BadBatch::BadPages) => panic!(rt; "pages that no commit may take"),
+        Ok(()) | Err(BadBatch::ReadOnly) => store.commit(pages, &mut source),
     }
 }
 
 /// The byte of which a page has so many, and zeros behind them.
-fn byte(store: &mut Store<SimDisk>, page: FilePage, inside: usize) -> Result<u8, Fail>
+pub(crate) fn byte(rt: &impl Abort, store: &mut Store<SimDisk>, page: FilePage, inside: usize) -> u8
     requires { IsReadyStore ⟦<SimDisk as SectorDisk>⟧ store.old }
     ensures { IsReadyStore ⟦<SimDisk as SectorDisk>⟧ store.new }
 {
-    if !is_page(store, page) {
-        return Err(Fail::new("no page"));
-    }
+    expect(rt, check_page(store, page), "no page");
     let mut bytes = [255; 4096];
-    store.read_page(page, &mut bytes)?;
+    store.read_page(page, &mut bytes).expect(rt, "a page");
     for i in 0..4096 {
         let wanted = if i < inside { bytes[0] } else { 0 };
-        expect(bytes[i] == wanted, "a page of other bytes")?;
+        expect(rt, bytes[i] == wanted, "a page of other bytes");
     }
-    Ok(bytes[0])
+    bytes[0]
 }
 
 /// The bytes of the first page, the last one, and the locked one.
-pub(crate) fn bytes(store: &mut Store<SimDisk>) -> Result<[u8; 3], Fail>
+pub(crate) fn bytes(rt: &impl Abort, store: &mut Store<SimDisk>) -> [u8; 3]
     requires { IsReadyStore ⟦<SimDisk as SectorDisk>⟧ store.old }
     ensures { IsReadyStore ⟦<SimDisk as SectorDisk>⟧ store.new }
 {
-    Ok([
-        byte(store, FIRST, 4096)?,
-        byte(store, LAST, 1)?,
-        byte(store, LOCKED, 3)?,
-    ])
+    [
+        byte(rt, store, FIRST, 4096),
+        byte(rt, store, LAST, 1),
+        byte(rt, store, LOCKED, 3),
+    ]
 }

@@ -1,4 +1,5 @@
-//! Tests of stores of any layout over a device in memory: how they are opened, read, committed to and tidied, what stands after stops, and what is no store.
+//! Tests of stores of any layout over a device in memory: how they are opened, read, committed to, tidied and upgraded, what stands after stops, and what is
+//! no store.
 #![tactic(auto)]
 
 #[cfg(test)]
@@ -6,6 +7,12 @@ mod bench;
 #[cfg(test)]
 mod commits;
 #[cfg(test)]
+mod old_stores;
+#[cfg(test)]
 mod openings;
 #[cfg(test)]
+mod pools;
+#[cfg(test)]
 mod tidying;
+#[cfg(test)]
+mod upgrading;

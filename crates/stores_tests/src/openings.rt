@@ -1,123 +1,125 @@
 //! Stores of each layout that are opened, and what is no store.
 use crate::bench::{
-    FIRST, LAST, LOCKED, Layout, bytes, commits, equal, expect, left, made, opened, refusal,
-    resumed,
+    FILES, FIRST, LAST, LOCKED, bytes, commit, equal, expect, left, made, opened, refusal, resumed,
 };
 use disk_model::{SectorDisk, SimDisk};
-use std::test::Fail;
-use stores::OpenFault;
+use std::process::Abort;
+use stores::{NewStore, OpenFault, image_bytes};
 use vm_types::FileInfo;
 
 #[test]
-fn a_store_has_the_files_that_it_is_made_of(rt: HostRuntime) -> Result<(), Fail> {
-    let alloc = rt.alloc();
+fn a_store_has_the_files_that_it_is_made_of(rt: HostRuntime) {
     let facts = |length, read_only| Some(FileInfo { length, read_only });
     let infos = [
-        (0, facts(4097, false)),
-        (1, facts(3, true)),
-        (2, None),
+        (0, facts(0, false)),
+        (1, facts(4097, false)),
+        (2, facts(3, true)),
+        (3, None),
         (255, None),
     ];
-    for (layout, most) in [
-        (Layout::Two, (1023, 1023, 1023)),
-        (Layout::Four, (1008, 504, 1008)),
-    ] {
-        let mut store = opened(alloc, left(alloc, &made(alloc, layout)?, None)?)?;
+    // Of layout 4 a directory of 4 home pages is before those of the files, behind maps of one block; pool and homes, the kind and the mark are each
+    // synced for themselves.
+    let rows = [
+        (
+            NewStore::Journal,
+            (4_208_128, 8195 + 8 * 3, 2),
+            (1023, 1023, 1023),
+        ),
+        (
+            NewStore::Pool(1),
+            (4_173_824, 16 + 8080 + 8 * (4 + 3), 3),
+            (1008, 504, 1008),
+        ),
+    ];
+    for (layout, sizes, most) in rows {
+        let disk = made(&rt, layout);
+        let size = image_bytes(layout, &FILES);
+        equal(&rt, (size, disk.sectors(), disk.syncs()), sizes);
+        let mut store = opened(&rt, left(&rt, &disk, None));
         for (n, info) in infos {
             equal(&rt, store.file(n), info);
             equal(&rt, store.info(u64::from(n)), info);
         }
-        equal(&rt, store.info(256), None);
+        equal(&rt, (store.info(256), store.info(257)), (None, None));
         let found = (
             store.free_pages(),
             store.always_free_pages(),
             store.capacity_pages(),
         );
         equal(&rt, found, most);
-        equal(&rt, bytes(&mut store)?, *b"aab");
-        equal(&rt, store.disk().writes(), 0);
+        equal(&rt, bytes(&rt, &mut store), *b"aab");
+        // No journal is open, and no page stands in a slot, so the opening wrote nothing.
+        equal(&rt, (store.disk().writes(), store.disk().syncs()), (0, 1));
+        equal(&rt, store.into_disk().sectors(), sizes.1);
     }
-    Ok(())
 }
 
-// Of layout 2 the open journal is carried out, three pages and then the gate; of layout 4 nothing is written.
+// Of layout 2 the open journal is carried out, three pages and then the gate, each synced; of layout 4 nothing is written.
 #[test]
-fn a_store_is_taken_up_as_it_stands(rt: HostRuntime) -> Result<(), Fail> {
-    let alloc = rt.alloc();
-    for (layout, free, written) in [(Layout::Two, 1023, 3 * 8 + 1), (Layout::Four, 1008 - 3, 0)] {
-        let mut store = opened(alloc, made(alloc, layout)?)?;
-        expect(
-            commits(&mut store, &[LOCKED, LAST, FIRST], b"xyz")?,
-            "a commit",
-        )?;
+fn a_store_is_taken_up_as_it_stands(rt: HostRuntime) {
+    for (layout, free, written) in [
+        (NewStore::Journal, 1023, 3 * 8 + 1),
+        (NewStore::Pool(1), 1008 - 3, 0),
+    ] {
+        let mut store = opened(&rt, made(&rt, layout));
+        let done = commit(&rt, &mut store, &[LOCKED, LAST, FIRST], b"xyz");
+        expect(&rt, done.is_ok(), "a commit");
         let disk = store.into_disk();
         let writes = disk.writes();
-        let mut store = resumed(alloc, disk)?;
-        equal(&rt, bytes(&mut store)?, *b"zyx");
+        let mut store = resumed(&rt, disk);
+        equal(&rt, bytes(&rt, &mut store), *b"zyx");
         equal(&rt, store.free_pages(), free);
-        equal(
-            &rt,
-            store.disk().writes().checked_sub(writes),
-            Some(written),
-        );
-        expect(commits(&mut store, &[LAST], b"w")?, "the next commit")?;
-        equal(&rt, bytes(&mut store)?, *b"zwx");
+        let more = store.disk().writes().checked_sub(writes);
+        equal(&rt, more, Some(written));
+        let done = commit(&rt, &mut store, &[LAST], b"w");
+        expect(&rt, done.is_ok(), "the next commit");
+        equal(&rt, bytes(&rt, &mut store), *b"zwx");
     }
-    Ok(())
 }
 
 #[test]
-fn a_device_without_a_whole_mark_is_no_store(rt: HostRuntime) -> Result<(), Fail> {
-    let alloc = rt.alloc();
+fn a_device_without_a_whole_mark_is_no_store(rt: HostRuntime) {
     for sectors in [0, 1, 8152, 8219] {
-        let disk = SimDisk::new(alloc, sectors)?;
-        equal(&rt, refusal(alloc, disk), (Some(OpenFault::BadLayout), 0));
+        let disk = SimDisk::new(rt.alloc(), sectors).expect(&rt, "memory");
+        equal(&rt, refusal(&rt, disk), (Some(OpenFault::BadLayout), 0));
     }
-    for layout in [Layout::Two, Layout::Four] {
-        let mut disk = made(alloc, layout)?;
+    for layout in [NewStore::Journal, NewStore::Pool(1)] {
+        let mut disk = made(&rt, layout);
         if disk.sectors() > 0 {
             let mut torn = *disk.sector(0);
             torn[511] = 0;
-            disk.write(0, &torn)?;
+            disk.write(0, &torn).expect(&rt, "a write");
         }
         let writes = disk.writes();
         equal(
             &rt,
-            refusal(alloc, disk),
+            refusal(&rt, disk),
             (Some(OpenFault::BadLayout), writes),
         );
     }
-    Ok(())
-}
-
-// A mark of layout 4 on a store of layout 2, whose sector 1 is no kind of a pool.
-#[test]
-fn a_mark_of_a_pool_alone_is_no_store(rt: HostRuntime) -> Result<(), Fail> {
-    let alloc = rt.alloc();
-    let mut disk = made(alloc, Layout::Two)?;
+    // A mark of layout 4 on a store of layout 2, whose sector 1 is no kind of a pool.
+    let mut disk = made(&rt, NewStore::Journal);
     if disk.sectors() > 0 {
-        disk.write(0, file_store::pool_mark())?;
+        let pool_mark = file_store::pool_mark();
+        disk.write(0, pool_mark).expect(&rt, "a write");
     }
     let writes = disk.writes();
     equal(
         &rt,
-        refusal(alloc, disk),
+        refusal(&rt, disk),
         (Some(OpenFault::BadLayout), writes),
     );
-    Ok(())
 }
 
 #[test]
-fn a_device_that_fails_is_told(rt: HostRuntime) -> Result<(), Fail> {
-    let alloc = rt.alloc();
-    for layout in [Layout::Two, Layout::Four] {
-        let store = opened(alloc, left(alloc, &made(alloc, layout)?, None)?)?;
+fn a_device_that_fails_is_told(rt: HostRuntime) {
+    for layout in [NewStore::Journal, NewStore::Pool(1)] {
+        let store = opened(&rt, left(&rt, &made(&rt, layout), None));
         // The calls of an opening are those that a device has had as it is opened.
         for call in [1, store.disk().calls()] {
-            let mut disk = left(alloc, store.disk(), None)?;
+            let mut disk = left(&rt, store.disk(), None);
             disk.fail_at(call);
-            equal(&rt, refusal(alloc, disk), (Some(OpenFault::Device), 0));
+            equal(&rt, refusal(&rt, disk), (Some(OpenFault::Device), 0));
         }
     }
-    Ok(())
 }

@@ -5,7 +5,7 @@ pub use Rattle.disk_model.specs.Stop.{ChangesPage, Elapses, ChangesOnly, HasCaus
 pub use Rattle.std.proofs.Common.{Bool, ◌≤◌, suc, ◌∙◌, inr, slice_get, arith, false, zero, ◌≡◌, inl, ◌+◌, Some, true, refl, eq-eqb, IsTrue, ◌<◌, if◌then◌else◌, List, Option, ⊎_elim, ne_eqb, subst, ◌==◌, length, ◌&&◌, ◌≢◌, ◌||◌, Result, []}
 pub use Rattle.std.proofs.Common.{sym, ap, ◌⊎◌, None, ℕ, IfErr, Err, ◌∷◌, ◌-◌, rules, ◌*◌, OnOk, IfOk}
 pub use Rattle.std.proofs.{Math.{ListN.{get_or, set}, Path.{fun_ext}}, lemmas.{Bool.{false≢true, cases_Bool, lt-ltb, le-leb, cases_eq, cases_lt, lt-leb}, List.{length-set, get_or-set_same}}}
-pub use Rattle.std.{proofs.lemmas.{List.{get_or-set_other}, Option.{slice_get-get_or, slice_get_past, same_Some}, Result.{IfErr-weaker}}, specs.{Cmp.Lexicographic.{same_text}, Prelude.{ltb, not}}}
+pub use Rattle.std.{proofs.lemmas.{List.{get_or-set_other}, Option.{slice_get-get_or, slice_get_past, same_Some}, Result.{IfErr-at_err, IfErr-weaker, IfOk-at_ok, IfOk-weaker}}, specs.{Cmp.Lexicographic.{same_text}, Prelude.{ltb, not}}}
 pub use borrow.Rule.Slice.PartMut.{put_mid}
 pub use Rattle.std.proofs.{Common.{drop, min, is_some}, lemmas.List.{get_or_past}}
 pub use Rattle.vm_types.specs.declared.file.{FileInfo.{FileInfo}, FilePage.{FilePage}}

@@ -1,5 +1,5 @@
 -- A store that is opened, or taken up.
-use Rattle.sync_plans.proofs.Names.{ℕ, ◌*◌, ◌≡◌, ◌⊎◌, Bool, true, false, not, false≢true, List, Option, Result, inr, ⊎_elim, refl, sym, ap, subst, ◌∙◌, fun_ext, IfErr, IfErr-weaker}
+use Rattle.sync_plans.proofs.Names.{ℕ, ◌*◌, ◌≡◌, ◌⊎◌, Bool, true, false, not, false≢true, List, Option, Result, inr, ⊎_elim, refl, sym, ap, subst, ◌∙◌, fun_ext, rules, Err, IfErr, IfErr-at_err, IfErr-weaker}
 use Rattle.sync_plans.proofs.Names.{Ghosts, Image, LeavesNow, LeavesOnly, Nothing, Touches, weaker, FileInfo, FilePage, pool_home_count, pool_named}
 use Rattle.sync_plans.proofs.Names.{same_blocks, same_mark, same_pages, in_kind, by_head, of_head, files_said, kind_outside, mark_outside, outside_alike, stands_for_own, head_of, ImageSays, is_pool, file_info, says_by, says, standing_page}
 use Rattle.sync_plans.proofs.Names.{capacity_by, capacity_pages, most_pages, IsBadJournal, IsBadLayout, IsClosed, IsOutside, StandsAs, StandsFor, KeepsHomesIn, PutsHomesIn, OpensFrom, RefusesToOpen, RunsOpening, ResumesFrom}
@@ -141,3 +141,11 @@ pub refuses_image : {D T : Type 0} (g : Ghosts D) (old new : D) {bad denied bad'
     → IfErr result (RefusesOn g old new bad denied) → IfErr result (RefusesImage (g.sector_count old) (g.content old) bad' denied')
 refuses_image g old new result k bad_so denied_so = IfErr-weaker result _ _
     (λ refusal r. record { layout = r.layout k; journal = r.journal k; memory = r.memory k; pages = λ is. bad_so (r.pages is); read_only = λ is. denied_so (r.read_only is) })
+
+-- or for want of room, whatever else came of it
+pub refuses_told : {T : Type 0} (sectors : ℕ) (image : Image) (bad denied : Type 0) (outcome : Result (Unit {0}) Refusal) (result : Result T Refusal)
+    → IfErr result (λ refusal. (refusal ≡ Device) ⊎ (outcome ≡ Err refusal)) → IfErr outcome (RefusesImage sectors image bad denied) → IfErr result (RefusesImage sectors image bad denied)
+refuses_told sectors image bad denied outcome result told refused = IfErr-weaker result _ _
+    (λ refusal. ⊎_elim
+    (λ full. subst (RefusesImage sectors image bad denied) (sym full) (record { layout = search rules; journal = search rules; memory = search rules; pages = search rules; read_only = search rules }))
+    (λ same. IfErr-at_err (RefusesImage sectors image bad denied) same refused)) told

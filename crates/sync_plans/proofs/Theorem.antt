@@ -165,16 +165,6 @@ module _ (d : PlanDisk) (calls' : List Call) (rows' image : List (List ℕ)) (pa
       let from_first = subst (λ (i : Image). MayLeave (image_after d.calls.now d.rows.now pages i at.0) (IsLeftUnsynced d.calls.now at.0) c) first may in
       inl (inr (inr (at.0, omega (arith, two), at.1, subst (λ (p : ℕ → List ℕ). MayLeave (image_after d.calls.now d.rows.now p (row d.image.now) at.0) (IsLeftUnsynced d.calls.now at.0) c) lent from_first)))
 
--- before the first call a plan says of the image what the caller's says
-pub as_given : (d0 : PlanDisk) (image : List (List ℕ)) (P : ℕ → Image → Type 0) → d0.image.now ≡ image → d0.used ≡ 0
-    → P (length d0.image.now) (content_of d0) → P (length image) (row image)
-as_given d0 image P given none was = subst (λ (xs : List (List ℕ)). P (length xs) (row xs)) given
-    (subst (λ (i : Image). P (length d0.image.now) i) (ap (λ (k : ℕ). image_after d0.calls.now d0.rows.now (pages_of d0) (row d0.image.now) k) none) was)
-
-pub to_given : (d0 : PlanDisk) (image : List (List ℕ)) (P : ℕ → Image → Type 0) → d0.image.now ≡ image
-    → P (length image) (row image) → P (length d0.image.now) (row d0.image.now)
-to_given d0 image P given was = subst (λ (xs : List (List ℕ)). P (length xs) (row xs)) (sym given) was
-
 -- a stop within some of the calls is one within more of them
 pub fewer : {calls : List Call} {rows : List (List ℕ)} {pages : ℕ → List ℕ} {first : Image} {m n : ℕ} {c : Image} → m ≤ n → StopLeaves calls rows pages first m c → StopLeaves calls rows pages first n c
 fewer le (After k within may) = After k (omega (arith, within, le)) may

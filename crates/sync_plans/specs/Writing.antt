@@ -1,13 +1,31 @@
 -- What is asked of a plan as a device that lists its writes and syncs, and what it comes to.
-use Rattle.std.specs.Prelude.{ℕ, ◌+◌, ◌<◌, ◌≤◌, ◌≡◌, ◌⊎◌, true, false, List, length, Result, OnOk, OnErr}
+use Rattle.std.specs.Prelude.{ℕ, ◌+◌, ◌<◌, ◌≤◌, ◌≡◌, ◌⊎◌, true, false, List, Some, length, slice_get, Result, OnOk, OnErr}
 use Rattle.disk_model.specs.declared.sector_disk.DiskFault.{DiskFault}
 use Rattle.disk_model.specs.Sectors.{part_of}
 use Rattle.disk_model.specs.Stop.{HasCause, IsOfPage, ChangesOnly, ChangesPage, Elapses}
 use Rattle.sync_plans.specs.declared.call.Call.{Call}
 use Rattle.sync_plans.specs.declared.plan_disk.PlanDisk.{PlanDisk}
-use Rattle.sync_plans.specs.Plans.{IsCall}
+use Rattle.sync_plans.specs.Plans.{row, IsCall, AreCalls, AreSources}
 use Rattle.sync_plans.specs.Device.{Lists}
-use Rattle.sync_plans.specs.PlanDisk.{pages_of, content_of, listed_unsynced, listed_left, plan_moment}
+use Rattle.sync_plans.specs.PlanDisk.{pages_of, content_of, listed_unsynced, listed_left, plan_moment, IsLost}
+
+-- A plan begins for a device that holds such an image, with such pages lent and room for so many calls:
+pub record Begins (held : List (List ℕ)) (pages : ℕ → List ℕ) (places : ℕ) (d : PlanDisk) : Type 0 where
+  pub image : d.image.now ≡ held
+  pub lent : pages_of d ≡ pages
+  pub room : d.room ≡ places
+  -- none is listed, and no write is lost.
+  pub used : d.used ≡ 0
+  pub kept : (k : ℕ) → IsLost d k → ⊥
+
+-- The listed calls are copied to the front of these lists,
+pub record CopiesPlan (d : PlanDisk) (calls : List Call) (rows : List (List ℕ)) : Type 0 where
+  pub same_calls : (k : ℕ) → k < d.used → slice_get calls k ≡ slice_get d.calls.now k
+  -- with the rows that they write,
+  pub same_rows : (k : ℕ) (call : Call) → k < d.used → slice_get d.calls.now k ≡ Some call → call.kind ≡ 1 → row rows k ≡ row d.rows.now k
+  -- and are calls of the device there, that find the bytes that they name.
+  pub all : AreCalls (length d.image.now) calls d.used
+  pub sources : AreSources (pages_of d) calls d.used
 
 -- A call that may be listed
 pub record IsListable (d : PlanDisk) (call : Call) : Type 0 where

@@ -147,7 +147,7 @@ fn keep_row(to: &mut [u8; 512], call: Call, bytes: &[u8; 512])
 
 impl<'a> PlanDisk<'a> {
     ghost use Rattle.sync_plans.specs.PlanDisk.{pages_of, content_of};
-    ghost use Rattle.sync_plans.specs.Writing.{IsListable, AddsCall, PutsSector, PutsPage};
+    ghost use Rattle.sync_plans.specs.Writing.{Begins, CopiesPlan, IsListable, AddsCall, PutsSector, PutsPage};
 
     pub(crate) fn new(
         image: &'a [[u8; 512]],
@@ -155,11 +155,7 @@ impl<'a> PlanDisk<'a> {
         scratch: Scratch<'a>,
         most: usize,
     ) -> PlanDisk<'a>
-        ensures image { result.image.now ≡ image.now }
-        ensures lent { result.lent.now ≡ lent.now }
-        ensures room { result.room ≡ min (min (length scratch.entry.calls.now) (length scratch.entry.rows.now)) most }
-        ensures used { result.used ≡ 0 }
-        ensures lost { (k : ℕ) → times_named result.lost k ≡ 0 }
+        ensures { Begins image.now (lent_page lent.now) (min (min (length scratch.entry.calls.now) (length scratch.entry.rows.now)) most) result }
     {
         let Scratch { calls, rows } = scratch;
         let room = calls.len().min(rows.len()).min(most);
@@ -377,10 +373,7 @@ impl<'a> PlanDisk<'a> {
     /// Copies the listed calls to the front of these lists, with the rows that they write.
     pub(crate) fn copy_to(&self, calls: &mut [Call], rows: &mut [[u8; 512]])
         requires room { (self.now.used ≤ length calls.old) × (self.now.used ≤ length rows.old) }
-        ensures calls { (k : ℕ) → k < self.now.used → slice_get calls.new k ≡ slice_get self.now.calls.now k }
-        ensures rows { (k : ℕ) (call : Call) → k < self.now.used → slice_get self.now.calls.now k ≡ Some call → call.kind ≡ 1 → row rows.new k ≡ row self.now.rows.now k }
-        ensures all { AreCalls (length self.now.image.now) calls.new self.now.used }
-        ensures sources { AreSources (pages_of self.now) calls.new self.now.used }
+        ensures { CopiesPlan self.now calls.new rows.new }
     {
         let listed = &*self.rows;
         for i in 0..self.used {

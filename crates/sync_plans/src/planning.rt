@@ -1,5 +1,5 @@
 //! Plans of device calls.
-ghost use Rattle.std.specs.Prelude.{◌≡◌, ℕ, List, [], Option, IfOk, IfErr, OnOk, length};
+ghost use Rattle.std.specs.Prelude.{◌≡◌, ◌≤◌, ◌<◌, ◌⊎◌, ℕ, min, true, List, [], Option, Ok, Err, IfOk, IfErr, OnOk, length};
 ghost use Rattle.vm_types.specs.declared.file.FileInfo.{FileInfo};
 ghost use Rattle.file_store.specs.Standing.{IsPageOf};
 ghost use Rattle.stores.specs.Commit.{ArePages};
@@ -8,14 +8,53 @@ ghost use Rattle.sync_plans.specs.Pages.{lent_page};
 ghost use Rattle.sync_plans.specs.Planned.{PlansOpening, PlansTidying, PlansCommit};
 ghost use Rattle.sync_plans.specs.Plans.{row, room_of, AreCalls};
 ghost use Rattle.sync_plans.specs.Requests.{IsStore, AreReadOnly, RefusesImage};
+ghost use Rattle.sync_plans.specs.Writing.{Begins, CopiesPlan};
 
 use crate::call::Call;
+use crate::lent_pages::PageBytes;
 use crate::plan_disk::PlanDisk;
 use crate::requests::{Refusal, commit, facts, open, read, tidy};
 use crate::scratch::Scratch;
 use crate::updates::PageUpdates;
 use std::alloc::Global;
 use vm_types::{FileInfo, FilePage};
+
+/// A plan for this image that may have as many calls as the shortest of the four lists has places.
+fn begun<'a>(
+    image: &'a [[u8; 512]],
+    lent: &'a [PageBytes<'a>],
+    scratch: Scratch<'a>,
+    calls: &[Call],
+    rows: &[[u8; 512]],
+) -> PlanDisk<'a>
+    ensures { Begins image.now (lent_page lent.now) (room_of scratch.entry.calls.now scratch.entry.rows.now calls.now rows.now) result }
+{
+    PlanDisk::new(image, lent, scratch, calls.len().min(rows.len()))
+}
+
+/// Gives the caller a plan that was made, and tells how many calls it has. Where there was no room for it that is what he is told, whatever came of it.
+fn told(
+    disk: &PlanDisk<'_>,
+    outcome: Result<(), Refusal>,
+    calls: &mut [Call],
+    rows: &mut [[u8; 512]],
+) -> Result<usize, Refusal>
+    requires room { disk.now.used ≤ min (length calls.old) (length rows.old) }
+    requires caused { IfErr outcome (λ refusal. refusal ≡ Refusal.Device → 0 < disk.now.failures.number) }
+    ensures copies { CopiesPlan disk.now calls.new rows.new }
+    ensures made { IfOk result (λ used. (used ≡ disk.now.used) × (outcome ≡ Ok tt)) }
+    ensures full { IfErr result (λ refusal. refusal ≡ Refusal.Device → disk.now.full ≡ true) }
+    ensures refused { IfErr result (λ refusal. (refusal ≡ Refusal.Device) ⊎ (outcome ≡ Err refusal)) }
+{
+    disk.copy_to(calls, rows);
+    if disk.full {
+        return Err(Refusal::Device);
+    }
+    match outcome {
+        Ok(()) => Ok(disk.used),
+        Err(refusal) => Err(refusal),
+    }
+}
 
 /// Plans that pages become durable all at once. There is at least one and there are no more than the store takes: 1,023 of layout 2, of layout 4
 /// as many as its pool has slots. Where fewer of these are free, all pages that stand in slots are brought home first, which takes 2 syncs more.
@@ -45,16 +84,9 @@ pub fn plan_commit(
         (AreReadOnly (length image.now) (row image.now) updates.entry.pages.now)) }
 {
     let PageUpdates { pages, bytes } = updates;
-    let disk = PlanDisk::new(image, bytes, scratch, calls.len().min(rows.len()));
+    let disk = begun(image, bytes, scratch, calls, rows);
     let (disk, outcome) = commit(alloc, disk, pages, bytes);
-    disk.copy_to(calls, rows);
-    if disk.full {
-        return Err(Refusal::Device);
-    }
-    match outcome {
-        Ok(()) => Ok(disk.used),
-        Err(refusal) => Err(refusal),
-    }
+    told(&disk, outcome, calls, rows)
 }
 
 /// Plans that what a stop has left is carried out: what stands in an open journal of layout 2, or the map of a pool, which is written anew in the place
@@ -74,16 +106,9 @@ pub fn plan_open(
     ensures no_room { IfErr result (λ refusal. refusal ≡ Refusal.Device → AreCalls (length image.now) calls.new (room_of scratch.entry.calls.now scratch.entry.rows.now calls.old rows.old)) }
     ensures refused { IfErr result (RefusesImage (length image.now) (row image.now) ⊥ ⊥) }
 {
-    let disk = PlanDisk::new(image, &[], scratch, calls.len().min(rows.len()));
+    let disk = begun(image, &[], scratch, calls, rows);
     let (disk, outcome) = open(alloc, disk);
-    disk.copy_to(calls, rows);
-    if disk.full {
-        return Err(Refusal::Device);
-    }
-    match outcome {
-        Ok(()) => Ok(disk.used),
-        Err(refusal) => Err(refusal),
-    }
+    told(&disk, outcome, calls, rows)
 }
 
 /// Plans that all pages are brought home that stand in slots of a pool, so that all slots are free, or in an open journal of layout 2.
@@ -102,16 +127,9 @@ pub fn plan_tidy(
     ensures no_room { IfErr result (λ refusal. refusal ≡ Refusal.Device → AreCalls (length image.now) calls.new (room_of scratch.entry.calls.now scratch.entry.rows.now calls.old rows.old)) }
     ensures refused { IfErr result (RefusesImage (length image.now) (row image.now) ⊥ ⊥) }
 {
-    let disk = PlanDisk::new(image, &[], scratch, calls.len().min(rows.len()));
+    let disk = begun(image, &[], scratch, calls, rows);
     let (disk, outcome) = tidy(alloc, disk);
-    disk.copy_to(calls, rows);
-    if disk.full {
-        return Err(Refusal::Device);
-    }
-    match outcome {
-        Ok(()) => Ok(disk.used),
-        Err(refusal) => Err(refusal),
-    }
+    told(&disk, outcome, calls, rows)
 }
 
 /// Reads a page as it is once the image is opened. Nothing is to be carried out.

@@ -89,9 +89,11 @@ pub(crate) fn tidy<D: SectorDisk + Drop>(alloc: Global, disk: D) -> (D, Result<(
         Ok(store) => store,
         Err((fault, disk)) => return (disk, Err(unopened(fault))),
     };
-    match store.tidy() {
-        Ok(()) => (store.into_disk(), Ok(())),
-        Err(_) => (store.into_disk(), Err(Refusal::Device)),
+    let tidied = store.tidy();
+    let disk = store.into_disk();
+    match tidied {
+        Ok(()) => (disk, Ok(())),
+        Err(_) => (disk, Err(Refusal::Device)),
     }
 }
 
@@ -136,9 +138,11 @@ pub(crate) fn read<D: SectorDisk + Drop>(
     if !check_page(&store, page) {
         return (store.into_disk(), Err(Refusal::BadPages));
     }
-    match store.read_page(page, to) {
-        Ok(()) => (store.into_disk(), Ok(())),
-        Err(_) => (store.into_disk(), Err(Refusal::Device)),
+    let read = store.read_page(page, to);
+    let disk = store.into_disk();
+    match read {
+        Ok(()) => (disk, Ok(())),
+        Err(_) => (disk, Err(Refusal::Device)),
     }
 }
 
@@ -170,8 +174,10 @@ pub(crate) fn commit<D: SectorDisk + Drop>(
         Err(_) => return (store.into_disk(), Err(Refusal::Device)),
     }
     let mut source = LentPages { pages: bytes };
-    match store.commit(pages, &mut source) {
-        Ok(()) => (store.into_disk(), Ok(())),
-        Err(_) => (store.into_disk(), Err(Refusal::Device)),
+    let committed = store.commit(pages, &mut source);
+    let disk = store.into_disk();
+    match committed {
+        Ok(()) => (disk, Ok(())),
+        Err(_) => (disk, Err(Refusal::Device)),
     }
 }

@@ -1,13 +1,12 @@
 //! The pages of the old store, copied to the homes of the new one.
-ghost use Rattle.std.specs.Prelude.{◌≡◌, ◌≤◌, ◌<◌, ◌+◌, ◌*◌, ◌^◌, ℕ, Some, OnOk};
+ghost use Rattle.std.specs.Prelude.{◌≤◌, ◌<◌, ◌+◌, ◌*◌, ◌^◌, Some, OnOk};
 ghost use Rattle.vm_types.specs.Limits.{file_limit};
-ghost use Rattle.pool_journal.specs.Sizes.{HasPool};
 ghost use Rattle.sync_journal.specs.OldLayouts.{old_home_count, old_standing};
 ghost use Rattle.file_store.specs.{Directory.{home_end}, Layout.{pages_of_length}, Standing.{page_standing_in}, Store.{entry_of}, Upgrade.{IsOldEntry, IsOldPage as IsPageOfEntry}};
 ghost use Rattle.pool_store.specs.Format.{IsHomeSector, new_pages};
-ghost use Rattle.upgrades.specs.Copying.{CopiesOld, IsBetween};
+ghost use Rattle.upgrades.specs.Copying.{CopiesOld, IsBetween, IsCopyable};
 ghost use Rattle.upgrades.specs.NewPool.{files_in, first_of, HoldsFiles, HoldsPages};
-ghost use Rattle.upgrades.specs.Old.{entry_pages, files_of, standing_page, IsOldPage, IsReadable};
+ghost use Rattle.upgrades.specs.Old.{entry_pages, standing_page, IsOldPage, IsReadable};
 
 use crate::places::pages_of;
 use disk_model::SectorDisk;
@@ -25,10 +24,7 @@ pub(crate) fn copy_files<D: SectorDisk, E: SectorDisk>(
     sizes: PoolSizes,
     files: &[Option<FileInfo>; FILES],
 ) -> Result<(), UpgradeFault>
-    requires ready { IsReadable D.SectorDisk store.now old.old }
-    requires pool { HasPool E.SectorDisk sizes new.old }
-    requires files { (f : ℕ) → files_in files.now f ≡ files_of store.now f }
-    requires homes { first_of (files_in files.now) file_limit ≤ sizes.homes }
+    requires { IsCopyable D.SectorDisk E.SectorDisk store.now sizes files.now old.old new.old }
     ensures copies { CopiesOld D.SectorDisk E.SectorDisk (IsOldPage (D.content old.old)) (IsHomeSector sizes.blocks new_pages (first_of (files_in files.now) file_limit)) old.old old.new new.old new.new result }
     ensures held { D.keeps_model old.new → E.keeps_model new.new
         → OnOk result (HoldsFiles sizes.blocks (files_in files.now) (standing_page (D.content old.old)) file_limit (E.content new.new)) }

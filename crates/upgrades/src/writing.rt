@@ -1,14 +1,14 @@
 //! All of the new store but its mark.
-ghost use Rattle.std.specs.Prelude.{◌≡◌, ◌≤◌, ◌<◌, ℕ, OnOk};
+ghost use Rattle.std.specs.Prelude.{◌≤◌, ◌<◌, OnOk};
 ghost use Rattle.vm_types.specs.Limits.{file_limit};
 ghost use Rattle.directories.specs.Kinds.{IsKind, IsMapSize};
 ghost use Rattle.pool_journal.specs.Sizes.{HasPool};
 ghost use Rattle.sync_journal.specs.Steps.{SyncsInto, WritesInto};
 ghost use Rattle.file_store.specs.Format.{IsKindSector};
 ghost use Rattle.pool_store.specs.Format.{IsInnerSector, IsUnmarkedPoolSector, new_pages};
-ghost use Rattle.upgrades.specs.Copying.{CopiesOld, WritesKindLast};
-ghost use Rattle.upgrades.specs.NewPool.{files_in, first_of, pages_before, HasTables, IsInnerUpgrade, IsTableSector};
-ghost use Rattle.upgrades.specs.Old.{files_of, standing_page, IsOldPage, IsReadable};
+ghost use Rattle.upgrades.specs.Copying.{CopiesOld, IsCopyable, WritesKindLast};
+ghost use Rattle.upgrades.specs.NewPool.{files_in, pages_before, HasTables, IsInnerUpgrade, IsTableSector};
+ghost use Rattle.upgrades.specs.Old.{standing_page, IsOldPage};
 
 use crate::copying::copy_files;
 use crate::new_directory::write_directory;
@@ -27,10 +27,7 @@ pub(crate) fn write_unmarked<D: SectorDisk, E: SectorDisk>(
     sizes: PoolSizes,
     files: &[Option<FileInfo>; FILES],
 ) -> Result<(), UpgradeFault>
-    requires ready { IsReadable D.SectorDisk store.now old.old }
-    requires pool { HasPool E.SectorDisk sizes new.old }
-    requires files { (f : ℕ) → files_in files.now f ≡ files_of store.now f }
-    requires homes { first_of (files_in files.now) file_limit ≤ sizes.homes }
+    requires { IsCopyable D.SectorDisk E.SectorDisk store.now sizes files.now old.old new.old }
     ensures copies { CopiesOld D.SectorDisk E.SectorDisk (IsOldPage (D.content old.old))
         (IsUnmarkedPoolSector sizes.blocks (pages_before (files_in files.now) file_limit)) old.old old.new new.old new.new result }
     ensures last { D.keeps_model old.new → E.keeps_model new.new
@@ -50,10 +47,7 @@ fn write_inner<D: SectorDisk, E: SectorDisk>(
     sizes: PoolSizes,
     files: &[Option<FileInfo>; FILES],
 ) -> Result<(), UpgradeFault>
-    requires ready { IsReadable D.SectorDisk store.now old.old }
-    requires pool { HasPool E.SectorDisk sizes new.old }
-    requires files { (f : ℕ) → files_in files.now f ≡ files_of store.now f }
-    requires homes { first_of (files_in files.now) file_limit ≤ sizes.homes }
+    requires { IsCopyable D.SectorDisk E.SectorDisk store.now sizes files.now old.old new.old }
     ensures copies { CopiesOld D.SectorDisk E.SectorDisk (IsOldPage (D.content old.old))
         (IsInnerSector sizes.blocks (pages_before (files_in files.now) file_limit)) old.old old.new new.old new.new result }
     ensures inner { D.keeps_model old.new → E.keeps_model new.new

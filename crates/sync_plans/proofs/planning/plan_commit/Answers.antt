@@ -1,95 +1,34 @@
-use Rattle.sync_plans.proofs.{Made.{Begins, LeavesLayout, few, full_list, stands_now, plan, ends, stop}, Names.{ℕ, ◌≡◌, List, IfErr, length, inr, refl, sym, ap, subst, ◌∙◌, min, arith, rules, Image, ArePages, StandsFor, StandsForEither, file_info, capacity_pages}, Runs.{refuses_image}, Theorem.{as_given}}
-use Rattle.sync_plans.specs.{Pages.{lent_page}, PlanDisk.{content_of}, Plans.{row, room_of, image_after}, Requests.{IsStore, KeepsOutside, AreWritable, AreReadOnly, RefusesImage}}
+use Rattle.sync_plans.{proofs.{Made.{as_given, at_end, at_stop, few, full_list, plan, stands_now}, Names.{IfErr, IfErr-weaker, IfOk-at_ok, IfOk-weaker, inr, refl, arith, ArePages, StandsFor, StandsForEither, capacity_pages, file_info}, Runs.{refuses_image, refuses_told}}, specs.{PlanDisk.{content_of}, Requests.{IsStore, KeepsOutside, AreWritable, AreReadOnly, RefusesImage}}}
 use Rattle.sync_plans.proofs.planning.plan_commit.Goals as goal
 
-pub copy_to-requires : goal.copy_to-requires
-copy_to-requires c =
-    let d0 = c.new-disk.result in
-    let d = c.commit-disk.result.0 in
-    let room = room_of c.args.scratch.calls.now c.args.scratch.rows.now c.args.calls.now c.args.rows.now in
-    let most : c.min.result ≡ min (length c.args.calls.now) (length c.args.rows.now) = search rules in
-    let begins : Begins c.args.image.now (lent_page c.args.updates.bytes.now) room d0 = record {
-      given = c.new-disk.ensures.image;
-      lent = ap lent_page c.new-disk.ensures.lent;
-      room = c.new-disk.ensures.room ∙ ap (min (min (length c.args.scratch.calls.now) (length c.args.scratch.rows.now))) most;
-      used = c.new-disk.ensures.used;
-      kept = λ k lost. let none = c.new-disk.ensures.lost k in omega (arith, none, lost);
-    } in
-    let runs : LeavesLayout d0 d = record {
-      size = c.commit-disk.ensures.stays.size;
-      layout = λ store. (c.commit-disk.ensures.stays.layout_moment tt store).before;
-      bad = λ bad. (c.commit-disk.ensures.stays.bad_unwritten tt bad).moments;
-    } in
-    let few = few c.args.image.now (lent_page c.args.updates.bytes.now) room d0 d begins runs in
-    record { room = (omega (arith, few), omega (arith, few)) }
+pub told-requires-clause-room : goal.told-requires-clause-room
+told-requires-clause-room c = let few = few c.begun-disk.ensures c.commit-disk.ensures.stays in omega (arith, few)
 
-pub returns-in-Err-clause-no_room : goal.returns-in-Err-clause-no_room
-returns-in-Err-clause-no_room c = λ is.
-    let d = c.commit-disk.result.0 in
-    let more = (rw c.in-Err.is at c.commit-disk.ensures.refused).cause is in
-    absurd (omega (arith, more, d.calm c.if-disk.false))
+pub told-requires-clause-caused : goal.told-requires-clause-caused
+told-requires-clause-caused c = IfErr-weaker c.commit-disk.result.1 _ _ (λ refusal refused is. let more = refused.cause is in omega (arith, more)) c.commit-disk.ensures.refused
 
-pub returns-then-disk-clause-no_room : goal.returns-then-disk-clause-no_room
-returns-then-disk-clause-no_room c = λ is.
-    let d0 = c.new-disk.result in
-    let d = c.commit-disk.result.0 in
-    let room = room_of c.args.scratch.calls.now c.args.scratch.rows.now c.args.calls.now c.args.rows.now in
-    let most : c.min.result ≡ min (length c.args.calls.now) (length c.args.rows.now) = search rules in
-    let begins : Begins c.args.image.now (lent_page c.args.updates.bytes.now) room d0 = record {
-      given = c.new-disk.ensures.image;
-      lent = ap lent_page c.new-disk.ensures.lent;
-      room = c.new-disk.ensures.room ∙ ap (min (min (length c.args.scratch.calls.now) (length c.args.scratch.rows.now))) most;
-      used = c.new-disk.ensures.used;
-      kept = λ k lost. let none = c.new-disk.ensures.lost k in omega (arith, none, lost);
-    } in
-    let runs : LeavesLayout d0 d = record {
-      size = c.commit-disk.ensures.stays.size;
-      layout = λ store. (c.commit-disk.ensures.stays.layout_moment tt store).before;
-      bad = λ bad. (c.commit-disk.ensures.stays.bad_unwritten tt bad).moments;
-    } in
-    full_list c.args.image.now (lent_page c.args.updates.bytes.now) room d0 d begins runs c.copy_to.new.calls c.copy_to.new.rows c.copy_to.ensures.all c.if-disk.true
+pub returns-clause-commits : goal.returns-clause-commits
+returns-clause-commits c = IfOk-weaker c.told.result _ _
+    (λ used made.
+    let begins = c.begun-disk.ensures in
+    let stays = c.commit-disk.ensures.stays in
+    let copies = c.told.ensures.copies in
+    let commits = IfOk-at_ok _ made.1 (c.commit-disk.ensures.commits tt) in
+    rw made.0 (record {
+      store = as_given begins IsStore commits.store;
+      writable = as_given begins (λ sectors first. AreWritable sectors first c.args.updates.pages.now) commits.writable;
+      plan = plan begins stays copies commits.store commits.synced;
+      any_moment = λ files before after stands changes.
+          at_stop begins stays copies commits.store (λ sectors. StandsForEither sectors files before after) (commits.any_moment files before after (stands_now begins files before stands) changes);
+      ok = λ files before after stands changes. at_end begins stays copies commits.store (λ sectors first last. StandsFor sectors files after last)
+          (commits.ok files before after (stands_now begins files before stands) changes (content_of c.commit-disk.result.0) (record { kept = λ n. inr refl }));
+      outside = at_end begins stays copies commits.store KeepsOutside commits.outside;
+    })) c.told.ensures.made
 
-pub returns-in-Ok-clause-commits : goal.returns-in-Ok-clause-commits
-returns-in-Ok-clause-commits c =
-    let d0 = c.new-disk.result in
-    let d = c.commit-disk.result.0 in
-    let room = room_of c.args.scratch.calls.now c.args.scratch.rows.now c.args.calls.now c.args.rows.now in
-    let most : c.min.result ≡ min (length c.args.calls.now) (length c.args.rows.now) = search rules in
-    let begins : Begins c.args.image.now (lent_page c.args.updates.bytes.now) room d0 = record {
-      given = c.new-disk.ensures.image;
-      lent = ap lent_page c.new-disk.ensures.lent;
-      room = c.new-disk.ensures.room ∙ ap (min (min (length c.args.scratch.calls.now) (length c.args.scratch.rows.now))) most;
-      used = c.new-disk.ensures.used;
-      kept = λ k lost. let none = c.new-disk.ensures.lost k in omega (arith, none, lost);
-    } in
-    let runs : LeavesLayout d0 d = record {
-      size = c.commit-disk.ensures.stays.size;
-      layout = λ store. (c.commit-disk.ensures.stays.layout_moment tt store).before;
-      bad = λ bad. (c.commit-disk.ensures.stays.bad_unwritten tt bad).moments;
-    } in
-    let commits = rw c.in-Ok.is at (c.commit-disk.ensures.commits tt) in
-    let store = as_given d0 c.args.image.now (λ sectors first. IsStore sectors first) begins.given begins.used commits.store in
-    let end = ends c.args.image.now (lent_page c.args.updates.bytes.now) room d0 d begins runs c.copy_to.new.calls c.copy_to.new.rows c.copy_to.ensures.all c.copy_to.ensures.sources c.copy_to.ensures.calls c.copy_to.ensures.rows store in
-    record {
-      store = store;
-      writable = as_given d0 c.args.image.now (λ sectors first. AreWritable sectors first c.args.updates.pages.now) begins.given begins.used commits.writable;
-      plan = plan c.args.image.now (lent_page c.args.updates.bytes.now) room d0 d begins runs c.copy_to.new.calls c.copy_to.new.rows c.copy_to.ensures.all c.copy_to.ensures.sources c.copy_to.ensures.calls c.copy_to.ensures.rows store commits.synced;
-      any_moment = λ files before after stands changes left within.
-          let now = stands_now c.args.image.now (lent_page c.args.updates.bytes.now) room d0 d begins files before stands in
-          subst (λ (xs : List (List ℕ)). StandsForEither (length xs) files before after left) begins.given
-          ((commits.any_moment files before after now changes).each left (stop c.args.image.now (lent_page c.args.updates.bytes.now) room d0 d begins runs c.copy_to.new.calls c.copy_to.new.rows c.copy_to.ensures.all c.copy_to.ensures.sources c.copy_to.ensures.calls c.copy_to.ensures.rows store left within));
-      ok = λ files before after stands changes.
-          let now = stands_now c.args.image.now (lent_page c.args.updates.bytes.now) room d0 d begins files before stands in
-          subst (λ (xs : List (List ℕ)). StandsFor (length xs) files after (image_after c.copy_to.new.calls c.copy_to.new.rows (lent_page c.args.updates.bytes.now) (row c.args.image.now) d.used)) begins.given
-          (subst (λ (i : Image). StandsFor (length d0.image.now) files after i) (sym end)
-          (commits.ok files before after now changes (content_of d) (record { kept = λ n. inr refl })));
-      outside = subst (λ (i : Image). KeepsOutside (length c.args.image.now) (row c.args.image.now) i) (sym end)
-          (as_given d0 c.args.image.now (λ sectors first. KeepsOutside sectors first (content_of d)) begins.given begins.used commits.outside);
-    }
+pub returns-clause-no_room : goal.returns-clause-no_room
+returns-clause-no_room c = IfErr-weaker c.told.result _ _ (λ refusal full is. full_list c.begun-disk.ensures c.commit-disk.ensures.stays c.told.ensures.copies (full is)) c.told.ensures.full
 
-pub returns-in-Err-clause-refused : goal.returns-in-Err-clause-refused
-returns-in-Err-clause-refused c =
-    let d0 = c.new-disk.result in
-    rw c.in-Err.is at (as_given d0 c.args.image.now (λ sectors image. IfErr c.commit-disk.result.1 (RefusesImage sectors image (ArePages (file_info sectors image) (capacity_pages sectors image) c.args.updates.pages.now → ⊥) (AreReadOnly sectors image c.args.updates.pages.now)))
-    c.new-disk.ensures.image c.new-disk.ensures.used
-    (refuses_image _ d0 c.commit-disk.result.0 c.commit-disk.result.1 tt (λ bad. bad tt) (λ denied. denied tt) c.commit-disk.ensures.refused))
+pub returns-clause-refused : goal.returns-clause-refused
+returns-clause-refused c = refuses_told _ _ _ _ c.commit-disk.result.1 c.told.result c.told.ensures.refused
+    (as_given c.begun-disk.ensures (λ sectors image. IfErr c.commit-disk.result.1 (RefusesImage sectors image (ArePages (file_info sectors image) (capacity_pages sectors image) c.args.updates.pages.now → ⊥) (AreReadOnly sectors image c.args.updates.pages.now)))
+    (refuses_image _ c.begun-disk.result c.commit-disk.result.0 c.commit-disk.result.1 tt (λ bad. bad tt) (λ denied. denied tt) c.commit-disk.ensures.refused))

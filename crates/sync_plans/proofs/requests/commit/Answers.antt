@@ -2,21 +2,21 @@ use Rattle.sync_plans.proofs.{Names.{ℕ, Option, inr, refl, sym, subst, ◌∙�
 use Rattle.sync_plans.{proofs.{Freed.{fits, freed_size, kept_outside, stays_committed, stays_freed, then_committed, when_freed}, Runs.{same_capacity, same_files, outside_then, committed_outside, found_store, told_so, stays_found, stays_refused}}, specs.{Pages.{lent_page}, Requests.{CommitsStore, KeepsOutside, StaysStore}}}
 use Rattle.sync_plans.proofs.requests.commit.Goals as goal
 
-pub commit-requires-clause-pages : goal.commit-requires-clause-pages
-commit-requires-clause-pages g c = fits c.in-Ok.store c.make_room_for.new.self c.capacity_pages.result c.args.pages.now c.in-Ok-check_pages.ensures.good c.make_room_for.ensures.files c.in-Ok-make_room_for.ensures.room
+pub commit-committed-requires-clause-pages : goal.commit-committed-requires-clause-pages
+commit-committed-requires-clause-pages g c = fits c.in-Ok.store c.make_room_for.new.self c.capacity_pages.result c.args.pages.now c.in-Ok-check_pages.ensures.good c.make_room_for.ensures.files c.in-Ok-make_room_for.ensures.room
 
-pub returns-in-Ok-commit-clause-commits : goal.returns-in-Ok-commit-clause-commits
-returns-in-Ok-commit-clause-commits g c = λ k.
+pub returns-in-Ok-committed-clause-commits : goal.returns-in-Ok-committed-clause-commits
+returns-in-Ok-committed-clause-commits g c = λ k.
     let disk = g.D.SectorDisk in
-    let e = c.into_disk-in-Ok-commit.ensures in
+    let e = c.into_disk-disk.ensures in
     let k3 = subst disk.keeps_model e k in
-    let k2 = c.commit.ensures.kept k3 in
+    let k2 = c.commit-committed.ensures.kept k3 in
     let k1 = c.make_room_for.ensures.kept k2 in
     let old = c.args.disk in
     let store = c.in-Ok.store in
     let freed = c.make_room_for.new.self in
     let mid = disk_of freed in
-    let new = disk_of c.commit.new.self in
+    let new = disk_of c.commit-committed.new.self in
     let sectors = disk.sector_count old in
     let found = c.in-Ok.ensures in
     let frees = c.make_room_for.ensures.frees in
@@ -33,31 +33,31 @@ returns-in-Ok-commit-clause-commits g c = λ k.
       ok = λ files before after left changes.
           let now = when_freed disk old store freed _ found frees c.requires.synced k2 files before left in
           subst (λ (s : ℕ). LeavesNow disk new (StandsFor s files after)) size
-          (c.in-Ok-commit.ensures.ok k3 tt files before after (subst (λ (s : ℕ). LeavesNow disk mid (StandsFor s files before)) (sym size) now) changes);
-      synced = c.in-Ok-commit.ensures.synced k3;
+          (c.in-Ok-committed.ensures.ok k3 tt files before after (subst (λ (s : ℕ). LeavesNow disk mid (StandsFor s files before)) (sym size) now) changes);
+      synced = c.in-Ok-committed.ensures.synced k3;
       any_moment = λ files before after left changes.
           let now = when_freed disk old store freed _ found frees c.requires.synced k2 files before left in
           then_committed disk old store freed _ found frees c.requires.synced k2 files before left after new
           (subst (λ (s : ℕ). LeavesOnly disk mid new (StandsForEither s files before after)) size
-          (c.commit.ensures.any_moment k3 tt files before after (subst (λ (s : ℕ). LeavesNow disk mid (StandsFor s files before)) (sym size) now) changes));
+          (c.commit-committed.ensures.any_moment k3 tt files before after (subst (λ (s : ℕ). LeavesNow disk mid (StandsFor s files before)) (sym size) now) changes));
       outside = outside_then sectors (disk.content old) (disk.content mid) (disk.content new) (kept_outside disk old store freed _ found frees c.requires.synced k2)
           (subst (λ (s : ℕ). KeepsOutside s (disk.content mid) (disk.content new)) size
-          (committed_outside disk freed c.in-Ok-make_room_for.ensures.ready k2 c.args.pages.now given (disk.content new) (c.in-Ok-commit.ensures.homes k3 tt (disk.content new) (record { kept = λ n. inr refl }))));
+          (committed_outside disk freed c.in-Ok-make_room_for.ensures.ready k2 c.args.pages.now given (disk.content new) (c.in-Ok-committed.ensures.homes k3 tt (disk.content new) (record { kept = λ n. inr refl }))));
     })
 
-pub returns-in-Ok-commit-clause-stays : goal.returns-in-Ok-commit-clause-stays
-returns-in-Ok-commit-clause-stays g c =
+pub returns-in-Ok-committed-clause-stays : goal.returns-in-Ok-committed-clause-stays
+returns-in-Ok-committed-clause-stays g c =
     let disk = g.D.SectorDisk in
-    subst (λ d. StaysStore disk c.args.disk d) (sym c.into_disk-in-Ok-commit.ensures)
-    (stays_committed disk c.args.disk c.in-Ok.store c.make_room_for.new.self _ c.in-Ok.ensures c.make_room_for.ensures.frees c.requires.synced (disk_of c.commit.new.self) c.args.pages.now (lent_page c.args.bytes.now)
-    c.in-Ok-check_pages.ensures.good.distinct c.commit.ensures.size c.commit.ensures.kept (λ k files before after left changes. c.commit.ensures.any_moment k tt files before after left changes))
+    subst (λ d. StaysStore disk c.args.disk d) (sym c.into_disk-disk.ensures)
+    (stays_committed disk c.args.disk c.in-Ok.store c.make_room_for.new.self _ c.in-Ok.ensures c.make_room_for.ensures.frees c.requires.synced (disk_of c.commit-committed.new.self) c.args.pages.now (lent_page c.args.bytes.now)
+    c.in-Ok-check_pages.ensures.good.distinct c.commit-committed.ensures.size c.commit-committed.ensures.kept (λ k files before after left changes. c.commit-committed.ensures.any_moment k tt files before after left changes))
 
-pub returns-in-Err-commit-clause-stays : goal.returns-in-Err-commit-clause-stays
-returns-in-Err-commit-clause-stays g c =
+pub returns-in-Err-committed-clause-stays : goal.returns-in-Err-committed-clause-stays
+returns-in-Err-committed-clause-stays g c =
     let disk = g.D.SectorDisk in
-    subst (λ d. StaysStore disk c.args.disk d) (sym c.into_disk-in-Err-commit.ensures)
-    (stays_committed disk c.args.disk c.in-Ok.store c.make_room_for.new.self _ c.in-Ok.ensures c.make_room_for.ensures.frees c.requires.synced (disk_of c.commit.new.self) c.args.pages.now (lent_page c.args.bytes.now)
-    c.in-Ok-check_pages.ensures.good.distinct c.commit.ensures.size c.commit.ensures.kept (λ k files before after left changes. c.commit.ensures.any_moment k tt files before after left changes))
+    subst (λ d. StaysStore disk c.args.disk d) (sym c.into_disk-disk.ensures)
+    (stays_committed disk c.args.disk c.in-Ok.store c.make_room_for.new.self _ c.in-Ok.ensures c.make_room_for.ensures.frees c.requires.synced (disk_of c.commit-committed.new.self) c.args.pages.now (lent_page c.args.bytes.now)
+    c.in-Ok-check_pages.ensures.good.distinct c.commit-committed.ensures.size c.commit-committed.ensures.kept (λ k files before after left changes. c.commit-committed.ensures.any_moment k tt files before after left changes))
 
 pub returns-in-Err-make_room_for-clause-stays : goal.returns-in-Err-make_room_for-clause-stays
 returns-in-Err-make_room_for-clause-stays g c =

@@ -1,20 +1,20 @@
 use Rattle.sync_plans.proofs.{Names.{ℕ, IsTrue, Option, inr, refl, sym, ap, subst, ◌∙◌, rules, FileInfo, IsPageOf, disk_of, standing_page}, Runs.{when_open, same_files, found_store, told_so}}
 use Rattle.sync_plans.proofs.requests.read.Goals as goal
 
-pub returns-in-Ok-read_page-clause-page : goal.returns-in-Ok-read_page-clause-page
-returns-in-Ok-read_page-clause-page g c = λ k files pages left inside.
+pub returns-in-Ok-read-clause-page : goal.returns-in-Ok-read-clause-page
+returns-in-Ok-read-clause-page g c = λ k files pages left inside.
     let device = g.D.SectorDisk in
     let disk = disk_of c.in-Ok.store in
-    let k2 = subst device.keeps_model c.into_disk-in-Ok-read_page.ensures k in
-    let opened = when_open device (device.sector_count c.args.disk) files pages c.args.disk disk left (c.in-Ok.ensures.now (c.read_page.ensures.kept k2)) in
+    let k2 = subst device.keeps_model c.into_disk-disk.ensures k in
+    let opened = when_open device (device.sector_count c.args.disk) files pages c.args.disk disk left (c.in-Ok.ensures.now (c.read_page-read.ensures.kept k2)) in
     let stands = opened (device.content disk) (record { kept = λ n. inr refl }) in
-    c.in-Ok-read_page.ensures.page k2
+    c.in-Ok-read.ensures.page k2
     ∙ ap (λ (sectors : ℕ). standing_page sectors (device.content disk) c.args.page.file c.args.page.page) c.in-Ok.ensures.run.size
     ∙ stands.same c.args.page.file c.args.page.page inside
 
-pub returns-in-Ok-read_page-clause-inside : goal.returns-in-Ok-read_page-clause-inside
-returns-in-Ok-read_page-clause-inside g c = λ k.
-    let k1 = c.read_page.ensures.kept (subst g.D.SectorDisk.keeps_model c.into_disk-in-Ok-read_page.ensures k) in
+pub returns-in-Ok-read-clause-inside : goal.returns-in-Ok-read-clause-inside
+returns-in-Ok-read-clause-inside g c = λ k.
+    let k1 = c.read_page-read.ensures.kept (subst g.D.SectorDisk.keeps_model c.into_disk-disk.ensures k) in
     let is : IsTrue c.check_page.result = search rules in
     subst (λ (files : ℕ → Option FileInfo). IsPageOf files c.args.page.file c.args.page.page) (same_files g.D.SectorDisk c.args.disk c.in-Ok.store c.in-Ok.ensures k1) (c.check_page.ensures.0 is)
 
@@ -32,9 +32,9 @@ returns-then-not-check_page-clause-refused g c = record {
   read_only = search rules;
 }
 
-pub returns-in-Ok-read_page-clause-store : goal.returns-in-Ok-read_page-clause-store
-returns-in-Ok-read_page-clause-store g c = λ k.
-    found_store g.D.SectorDisk c.args.disk c.in-Ok.store c.in-Ok.ensures (c.read_page.ensures.kept (subst g.D.SectorDisk.keeps_model c.into_disk-in-Ok-read_page.ensures k))
+pub returns-in-Ok-read-clause-store : goal.returns-in-Ok-read-clause-store
+returns-in-Ok-read-clause-store g c = λ k.
+    found_store g.D.SectorDisk c.args.disk c.in-Ok.store c.in-Ok.ensures (c.read_page-read.ensures.kept (subst g.D.SectorDisk.keeps_model c.into_disk-disk.ensures k))
 
 pub returns-in-Err-clause-refused : goal.returns-in-Err-clause-refused
 returns-in-Err-clause-refused g c =

@@ -11,19 +11,20 @@ use Rattle.upgrades.specs.{Copying.{WritesKindLast}, Finding.{LooksAtKind}, NewP
 use Rattle.upgrades.proofs.upgrading.upgrade.{Given.{Over}, Goals.{After-write_mark}}
 use Rattle.upgrades.proofs.upgrading.upgrade.Goals as goal
 
-pub write_unmarked-requires-clause-pool : goal.write_unmarked-requires-clause-pool
-write_unmarked-requires-clause-pool g c =
-    let is = c.of-sizes.ensures in let room = (c.in_ok-check_new.ensures.room (ok_is_no_err _ _)).front in
+pub write_unmarked-requires : goal.write_unmarked-requires
+write_unmarked-requires g c =
+    let is = c.of-sizes.ensures in let room = c.in_ok-check_new.ensures.room (ok_is_no_err _ _) in
+    let count = is.homes ∙ ap (pool_home_count c.args.blocks) (c.sectors.ensures ∙ c.check_new.ensures.run.size) in
     record {
-      sized = (omega (arith, is.blocks, c.requires.0), omega (arith, is.blocks, c.requires.1));
-      room = omega (arith, is.blocks, room, c.check_new.ensures.run.size);
-      homes = is.homes ∙ ap (pool_home_count c.args.blocks) c.sectors.ensures ∙ ap (λ m. pool_home_count m (g.E.SectorDisk.sector_count c.check_new.new.new)) (sym is.blocks);
+      ready = c.in_ok-store.ensures.ready;
+      pool = record {
+        sized = (omega (arith, is.blocks, c.requires.0), omega (arith, is.blocks, c.requires.1));
+        room = omega (arith, is.blocks, room.front, c.check_new.ensures.run.size);
+        homes = is.homes ∙ ap (pool_home_count c.args.blocks) c.sectors.ensures ∙ ap (λ m. pool_home_count m (g.E.SectorDisk.sector_count c.check_new.new.new)) (sym is.blocks);
+      };
+      files = c.list_files-files.ensures;
+      homes = omega (arith, count, room.homes);
     }
-
-pub write_unmarked-requires-clause-homes : goal.write_unmarked-requires-clause-homes
-write_unmarked-requires-clause-homes g c =
-    let is = c.of-sizes.ensures in let room = (c.in_ok-check_new.ensures.room (ok_is_no_err _ _)).homes in
-    let count = is.homes ∙ ap (pool_home_count c.args.blocks) (c.sectors.ensures ∙ c.check_new.ensures.run.size) in omega (arith, count, room)
 
 -- the old store is refused
 pub returns-in_err-store : goal.returns-in_err-store

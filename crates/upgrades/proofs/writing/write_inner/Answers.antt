@@ -5,8 +5,13 @@ use Rattle.upgrades.proofs.{Copies.{copies_later}, Old.{not_run}, Tables.{tables
 use Rattle.upgrades.specs.{NewPool.{IsTableSector, files_in, first_of, pages_before}, Old.{IsOldPage}}
 use Rattle.upgrades.proofs.writing.write_inner.Goals as goal
 
-pub copy_files-requires-clause-pool : goal.copy_files-requires-clause-pool
-copy_files-requires-clause-pool g c = has_pool g.E.SectorDisk c.args.sizes c.args.new.now c.write_tables.new.new c.write_tables.ensures.size c.requires.pool
+pub copy_files-requires : goal.copy_files-requires
+copy_files-requires g c = record {
+  ready = c.requires.ready;
+  pool = has_pool g.E.SectorDisk c.args.sizes c.args.new.now c.write_tables.new.new c.write_tables.ensures.size c.requires.pool;
+  files = c.requires.files;
+  homes = c.requires.homes;
+}
 
 pub returns-in_err-write_tables-clause-copies : goal.returns-in_err-write_tables-clause-copies
 returns-in_err-write_tables-clause-copies g c =

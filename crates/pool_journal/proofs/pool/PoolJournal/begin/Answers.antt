@@ -1,32 +1,32 @@
-use Rattle.std.proofs.Common.{◌≡◌, ◌+◌, ◌*◌, ◌∙◌, ℕ, Bool, true, false, length, get_or, ap, refl, arith}
+use Rattle.std.proofs.Common.{◌≡◌, ◌+◌, ◌-◌, ◌*◌, ◌∙◌, ℕ, Bool, true, false, length, get_or, ap, refl, arith}
 use Rattle.std.specs.Prelude.{nat_lt}
-use Rattle.pool_journal.{proofs.Taken.{live_most}, specs.{Giving.{number_but, live_among}, Maps.{entries_of, IsMapOf}}}
+use Rattle.pool_journal.{proofs.{Counted.{free_and_live}, Free.{free_most}}, specs.{Giving.{number_but, live_among}, Journal.{live_count}, Maps.{entries_of, IsMapOf}}}
 use Rattle.pool_journal.proofs.pool.PoolJournal.begin.Goals as goal
 
-pub overflow_add-result : goal.overflow_add-result
-overflow_add-result c =
-    let next = c.forget-kept.new.map in
-    let long = c.forget-kept.ensures.size c.args.self.now.sizes.blocks (
-      ap (λ xs. length xs) c.copy_from.ensures.first
-          ∙ c.requires.is.map.0,
-      ap (λ xs. length xs) c.copy_from.ensures.second ∙ c.requires.is.map.1,
-    ) in
-    let one = live_most (entries_of next false) (length next.first.items) in
-    let two = live_most (entries_of next true) (length next.second.items) in
-    omega (arith, c.forget-kept.ensures.counted, one, two, long.0, long.1, c.requires.few, c.requires.is.sized.1)
+pub overflow_sub-live : goal.overflow_sub-live
+overflow_sub-live c = (let most = free_most c.args.self.now.sizes.blocks (entries_of c.args.self.now.map) in omega (arith, most, c.requires.is.counted, c.places-places.ensures))
+
+pub forget-gone-requires-clause-size : goal.forget-gone-requires-clause-size
+forget-gone-requires-clause-size c = (c.args.self.now.sizes.blocks, (ap (λ xs. length xs) c.copy_from.ensures.first ∙ c.requires.is.map.0, ap (λ xs. length xs) c.copy_from.ensures.second ∙ c.requires.is.map.1))
+
+pub overflow_sub-result : goal.overflow_sub-result
+overflow_sub-result c =
+    let m = c.args.self.now.sizes.blocks in
+    let one = ap (λ xs. live_among (λ r. get_or xs r 0) (504 * m)) c.copy_from.ensures.first in
+    let two = ap (λ xs. live_among (λ r. get_or xs r 0) (504 * m)) c.copy_from.ensures.second in
+    let all = free_and_live m (entries_of c.args.self.now.map) in
+    let gone = c.forget-gone.ensures.counted m (ap (λ xs. length xs) c.copy_from.ensures.first ∙ c.requires.is.map.0, ap (λ xs. length xs) c.copy_from.ensures.second ∙ c.requires.is.map.1) in
+    omega (arith, one, two, all, gone, c.requires.is.counted, c.places-places.ensures)
 
 pub returns : goal.returns
 returns c = record {
   next = next;
-  full_is = ap (λ places. nat_lt places (c.forget-kept.result + length c.args.homes.now)) c.places.ensures
-      ∙ ap (λ kept. nat_lt (504 * m) (kept + length c.args.homes.now)) (c.forget-kept.ensures.counted
-      ∙ ap (λ n. live_among (entries_of c.forget-kept.new.map false) n + live_among (entries_of c.forget-kept.new.map true)
-      (length c.forget-kept.new.map.second.items)) long.0
-      ∙ ap (λ n. live_among (entries_of c.forget-kept.new.map false) (504 * m) + live_among (entries_of c.forget-kept.new.map true) n) long.1);
+  full_is = ap (λ k. nat_lt c.places-places.result (k + length c.args.homes.now)) kept
+      ∙ ap (λ places. nat_lt places (live_count m (entries_of c.forget-gone.new.map) + length c.args.homes.now)) c.places-places.ensures;
   is = record {
     sized = c.requires.is.sized;
     map = c.requires.is.map;
-    next = long;
+    next = c.forget-gone.ensures.size m copied;
     homes = c.requires.is.homes;
     counted = c.requires.is.counted;
     room = c.requires.is.room;
@@ -40,13 +40,17 @@ returns c = record {
     m : ℕ
     m = c.args.self.now.sizes.blocks
 
-    long : IsMapOf m c.forget-kept.new.map
-    long = c.forget-kept.ensures.size m (
-      ap (λ xs. length xs) c.copy_from.ensures.first
-          ∙ c.requires.is.map.0,
-      ap (λ xs. length xs) c.copy_from.ensures.second ∙ c.requires.is.map.1,
-    )
+    copied : IsMapOf m c.copy_from.new.self
+    copied = (ap (λ xs. length xs) c.copy_from.ensures.first ∙ c.requires.is.map.0, ap (λ xs. length xs) c.copy_from.ensures.second ∙ c.requires.is.map.1)
 
-    next : (body : Bool) (r : ℕ) → entries_of c.forget-kept.new.map body r ≡ number_but c.args.homes.now (entries_of c.args.self.now.map body r)
-    next false r = c.forget-kept.ensures.forgotten false r ∙ ap (λ xs. number_but c.args.homes.now (get_or xs r 0)) c.copy_from.ensures.first
-    next true r = c.forget-kept.ensures.forgotten true r ∙ ap (λ xs. number_but c.args.homes.now (get_or xs r 0)) c.copy_from.ensures.second
+    next : (body : Bool) (r : ℕ) → entries_of c.forget-gone.new.map body r ≡ number_but c.args.homes.now (entries_of c.args.self.now.map body r)
+    next false r = c.forget-gone.ensures.forgotten false r ∙ ap (λ xs. number_but c.args.homes.now (get_or xs r 0)) c.copy_from.ensures.first
+    next true r = c.forget-gone.ensures.forgotten true r ∙ ap (λ xs. number_but c.args.homes.now (get_or xs r 0)) c.copy_from.ensures.second
+
+    kept : 2 * c.places-places.result - c.args.self.now.free - c.forget-gone.result ≡ live_count m (entries_of c.forget-gone.new.map)
+    kept =
+        let one = ap (λ xs. live_among (λ r. get_or xs r 0) (504 * m)) c.copy_from.ensures.first in
+        let two = ap (λ xs. live_among (λ r. get_or xs r 0) (504 * m)) c.copy_from.ensures.second in
+        let all = free_and_live m (entries_of c.args.self.now.map) in
+        let gone = c.forget-gone.ensures.counted m copied in
+        omega (arith, one, two, all, gone, c.requires.is.counted, c.places-places.ensures)

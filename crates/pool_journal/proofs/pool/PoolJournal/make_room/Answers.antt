@@ -1,6 +1,6 @@
-use Rattle.std.proofs.Common.{◌*◌, ◌∙◌, refl, sym, ap, subst, arith, rules, inl}
+use Rattle.std.proofs.Common.{◌*◌, ◌∙◌, refl, sym, ap, subst, arith, rules, inl, inr}
 use Rattle.disk_model.proofs.{Moments.{asks_none, asks_wider}, Naming.{once_none, once_wider}}
-use Rattle.pool_journal.proofs.{Counted.{none_live, not_full}, Room.{alike, but_most, thin_loose, thin_moved, thin_full, thin_single}, Thinned.{kept, copied, none_had}}
+use Rattle.pool_journal.proofs.{Counted.{none_live, not_full}, Room.{alike, but_most, thin_either, thin_loose, thin_moved, thin_full, thin_single}, Thinned.{kept, copied, none_had}}
 use Rattle.pool_journal.specs.{Commit.{thinned, IsDropped}, Copying.{IsCopiedHome, HoldsHomes}, Maps.{entries_of}, Pools.{IsLooseHome, IsSingle}}
 use Rattle.sync_journal.proofs.Runs.{of_more}
 use Rattle.pool_journal.proofs.pool.PoolJournal.make_room.Goals as goal
@@ -20,6 +20,7 @@ returns-in_err-copy_home g c =
     let w = c.copy_home.ensures in
     record {
       thins = search rules;
+      keeps_slots = λ body r. thin_either m was thin homes begins.next body r;
       homes_are = λ body r. (let most = but_most homes (was body r) in omega (arith, most, begins.next body r, c.requires.is.homes body r));
       new_homes = none_had homes was thin begins.next;
       single = thin_single m was thin homes begins.next;
@@ -52,6 +53,7 @@ returns-in_ok-copy_home g c =
     record {
       thins = λ keeps. copied m was (entries_of c.clear.new.self) homes (d.content old) (d.content new) c.clear.ensures.empty
           (λ h slot is i below. subst (λ b. HoldsHomes b thin (d.content old) (d.content new)) size (w.done keeps) h i slot (alike m was thin homes begins.next h ∙ is) below);
+      keeps_slots = λ body r. inr (c.clear.ensures.empty body r);
       homes_are = λ body r. omega (arith, c.clear.ensures.empty body r);
       new_homes = λ body r j inside names. omega (arith, names, c.clear.ensures.empty body r);
       single = λ single a b r s low below same. inl (c.clear.ensures.empty a r);
@@ -92,6 +94,7 @@ returns-else-begin g c =
     let disk = c.args.disk.now in
     record {
       thins = λ keeps. kept m was thin homes (d.content disk) (d.content disk) begins.next;
+      keeps_slots = λ body r. thin_either m was thin homes begins.next body r;
       homes_are = λ body r. (let most = but_most homes (was body r) in omega (arith, most, begins.next body r, c.requires.is.homes body r));
       new_homes = none_had homes was thin begins.next;
       single = thin_single m was thin homes begins.next;

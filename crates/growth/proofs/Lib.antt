@@ -1,0 +1,7 @@
+pub mod Listed
+pub mod Kept
+pub mod Found
+pub mod Changed
+pub mod Checked
+pub mod Lasting
+pub mod Widened

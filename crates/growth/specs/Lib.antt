@@ -1,0 +1,4 @@
+pub mod Changes
+pub mod Refusals
+pub mod Parts
+pub mod Room

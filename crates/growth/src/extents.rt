@@ -1,0 +1,97 @@
+//! Extents, one and several.
+ghost use Rattle.std.specs.Prelude.{◌≡◌, ◌≤◌, ◌<◌, ◌+◌, length, MatchOption, IsTrue, IsFalse};
+ghost use Rattle.directories.specs.Homes.{homes_of, pages_of_length};
+ghost use Rattle.directories.specs.Layouts.{ShareHome};
+ghost use Rattle.growth.specs.Room.{file_homes};
+ghost use Rattle.growth.specs.Parts.{extents_of_file, kept_count, new_extents, IsApartFrom, IsMet};
+
+use crate::changes::Change;
+use directories::{Entry, Extent};
+
+/// The home behind the last of an extent.
+pub(crate) fn end_of(extent: &Extent) -> u64
+    ensures { result ≡ extent.now.first + extent.now.count }
+{
+    u64::from(extent.first) + u64::from(extent.count)
+}
+
+/// Whether two extents have a home in common.
+fn meet(one: &Extent, other: &Extent) -> bool
+    ensures some { IsTrue result → ShareHome one.now other.now }
+    ensures none { IsFalse result → ShareHome one.now other.now → ⊥ }
+{
+    u64::from(one.first.max(other.first)) < end_of(one).min(end_of(other))
+}
+
+/// The first of these extents with a home of this one; `None` exactly where there is none.
+pub(crate) fn find_meeting(extents: &[Extent], extent: &Extent) -> Option<Extent>
+    ensures { MatchOption result (IsApartFrom extents.now extent.now) (IsMet extents.now extent.now) }
+{
+    for other in extents {
+        if meet(extent, other) {
+            return Some(*other);
+        }
+    }
+    None
+}
+
+/// How many homes these extents have.
+fn count_homes(extents: &[Extent]) -> u64
+    requires { length extents.now ≤ 30 }
+    ensures { result ≡ length (homes_of extents.now) }
+{
+    let mut count = 0;
+    for extent in extents {
+        count += u64::from(extent.count);
+    }
+    count
+}
+
+/// How many homes a file has.
+pub(crate) fn file_homes(entry: &Entry) -> u64
+    ensures { result ≡ file_homes entry.now }
+{
+    count_homes(entry.extents())
+}
+
+/// How many pages a file has.
+pub(crate) fn page_count(entry: &Entry) -> u64
+    ensures { result ≡ pages_of_length entry.now.length }
+{
+    entry.length.div_ceil(vm_types::PAGE_BYTES as u64)
+}
+
+/// The extents of a file, if there is one.
+pub(crate) fn extents_of_file(entry: &Option<Entry>) -> &[Extent]
+    ensures extents { result.now ≡ extents_of_file entry.now }
+    ensures few { length result.now ≤ 30 }
+{
+    match entry {
+        Some(entry) => entry.extents(),
+        None => &[],
+    }
+}
+
+/// The new extents of a change: those behind the file's own from before.
+pub(crate) fn new_extents<'a>(before: &[Option<Entry>], change: &'a Change) -> &'a [Extent]
+    requires { change.now.file < length before.now }
+    ensures extents { result.now ≡ new_extents before.now change.now }
+    ensures few { length result.now ≤ 30 }
+{
+    let extents = extents_of_file(&change.entry);
+    let kept = count_kept(extents_of_file(&before[change.file as usize]), extents);
+    &extents[kept..]
+}
+
+/// How many extents in front are the same in both.
+fn count_kept(old: &[Extent], new: &[Extent]) -> usize
+    ensures count { result ≡ kept_count old.now new.now }
+    ensures inside { result ≤ length new.now }
+{
+    for (i, extent) in new.iter().enumerate() {
+        if i >= old.len() || old[i] != *extent {
+            return i;
+        }
+    }
+    new.len()
+}

@@ -1,0 +1,51 @@
+//! Room for a file that grows.
+use crate::bench::equal;
+use crate::files::{file, files, with_third};
+use directories::{EXTENTS, Entry, Extent};
+use growth::{Change, Homes, widen};
+
+/// File 0 with room for so many pages, where a change gives file 1 homes 20 to 25.
+fn wider(count: u64, first: u32, end: u32) -> Option<Entry> {
+    let before = files();
+    let changes = [Change {
+        file: 1,
+        entry: file(6, (20, 6), (0, 0)),
+    }];
+    let Some(entry) = before[0] else {
+        return None;
+    };
+    widen(&before, &changes, &entry, count, Homes { first, end })
+}
+
+// As it was; behind all that is in use 64 homes, or what is missing; 64 in a gap; what is missing alone behind all, and in a gap; nowhere.
+#[test]
+fn room_is_found(rt: HostRuntime) {
+    for (count, first, end, found) in [
+        (5, 4, 1000, files()[0]),
+        (6, 4, 1000, with_third(5, (91, 64))),
+        (100, 4, 1000, with_third(5, (91, 95))),
+        (6, 4, 120, with_third(5, (26, 64))),
+        (6, 30, 120, with_third(5, (91, 1))),
+        (20, 30, 100, with_third(5, (30, 15))),
+        (15, 4, 30, with_third(5, (10, 10))),
+        (70, 4, 100, None),
+    ] {
+        equal(&rt, (count, wider(count, first, end)), (count, found));
+    }
+}
+
+#[test]
+fn no_room_is_left_behind_thirty_extents(rt: HostRuntime) {
+    let full = Entry {
+        read_only: true,
+        length: 0,
+        extent_count: 30,
+        extents: [Extent { first: 0, count: 0 }; EXTENTS],
+    };
+    let room = Homes {
+        first: 4,
+        end: 1000,
+    };
+    equal(&rt, widen(&[], &[], &full, 0, room), Some(full));
+    equal(&rt, widen(&[], &[], &full, 1, room), None);
+}
