@@ -7,7 +7,7 @@ use Rattle.std.specs.List.{AllPairs}
 use Rattle.directories.specs.Layouts.{entry_in, IsExtent}
 use Rattle.directories.specs.declared.entry.Extent.{Extent}
 use Rattle.directories.specs.declared.entry.Entry.{Entry}
-use Rattle.growth.specs.Changes.{change_of, entry_by, entry_after, changed, AreChanges, IsOld}
+use Rattle.growth.specs.Changes.{change_of, entry_then, entry_after, entries_after, AreChanges, IsOld}
 use Rattle.growth.specs.Parts.{extents_of_file, kept_count, new_extents}
 use Rattle.growth.specs.declared.changes.Change.{Change}
 use Rattle.directories.proofs.Said.{no_extent}
@@ -29,12 +29,12 @@ rise_on changes next i (suc j) d less inside =
     (cases_eq i j)
 
 -- as many as before
-pub length_after : (entries : List (Option Entry)) (changes : List Change) → length (changed entries changes) ≡ length entries
-unfolding changed
+pub length_after : (entries : List (Option Entry)) (changes : List Change) → length (entries_after entries changes) ≡ length entries
+unfolding entries_after
 length_after entries changes = length-map-range_with_len (λ f. entry_after entries changes f) 0 (length entries)
 
-pub entry_there : (entries : List (Option Entry)) (changes : List Change) (f : ℕ) → f < length entries → entry_in (changed entries changes) f ≡ entry_after entries changes f
-unfolding changed
+pub entry_there : (entries : List (Option Entry)) (changes : List Change) (f : ℕ) → f < length entries → entry_in (entries_after entries changes) f ≡ entry_after entries changes f
+unfolding entries_after
 entry_there entries changes f inside = get_or-map-range_with_len (λ g. entry_after entries changes g) 0 (length entries) f f None inside (omega arith)
 
 -- the change of a file
@@ -72,23 +72,23 @@ change_found (d ∷ ds) f c is = ⊎_elim
 pub record IsChanged (before : List (Option Entry)) (changes : List Change) (f : ℕ) : Type 0 where
   pub change : Change
   pub has : HasChange changes f change
-  pub entry : entry_in (changed before changes) f ≡ change.entry
+  pub entry : entry_in (entries_after before changes) f ≡ change.entry
 
 -- a file is changed, or it is as it was
-of_change : (before : List (Option Entry)) (changes : List Change) (f : ℕ) (r : Option Change) → change_of changes f ≡ r → entry_in (changed before changes) f ≡ entry_by r (entry_in before f)
-    → IsChanged before changes f ⊎ (entry_in (changed before changes) f ≡ entry_in before f)
+of_change : (before : List (Option Entry)) (changes : List Change) (f : ℕ) (r : Option Change) → change_of changes f ≡ r → entry_in (entries_after before changes) f ≡ entry_then r (entry_in before f)
+    → IsChanged before changes f ⊎ (entry_in (entries_after before changes) f ≡ entry_in before f)
 of_change before changes f None is after = inr after
 of_change before changes f (Some c) is after = inl (record { change = c; has = change_found changes f c is; entry = after })
 
-pub file_after : (before : List (Option Entry)) (changes : List Change) (f : ℕ) → f < length before → IsChanged before changes f ⊎ (entry_in (changed before changes) f ≡ entry_in before f)
+pub file_after : (before : List (Option Entry)) (changes : List Change) (f : ℕ) → f < length before → IsChanged before changes f ⊎ (entry_in (entries_after before changes) f ≡ entry_in before f)
 file_after before changes f inside = of_change before changes f (change_of changes f) refl (entry_there before changes f inside)
 
 pub entry_of_change : (before : List (Option Entry)) (changes : List Change) (i : ℕ) (c : Change) → AreChanges before changes → slice_get changes i ≡ Some c
-    → entry_in (changed before changes) c.file ≡ c.entry
+    → entry_in (entries_after before changes) c.file ≡ c.entry
 entry_of_change before changes i c are is =
     let inside : i < length changes = slice_get_within changes i c is in
     let file : c.file < length before = subst (λ (d : Change). d.file < length before) (get_or_from_slice_get changes i c no_change is) (are.inside i no_change inside) in
-    entry_there before changes c.file file ∙ ap (λ (r : Option Change). entry_by r (entry_in before c.file)) (change_there changes i c are.rising is)
+    entry_there before changes c.file file ∙ ap (λ (r : Option Change). entry_then r (entry_in before c.file)) (change_there changes i c are.rising is)
 
 -- the extents of a change: how many are kept, and each new one
 abbrev pub kept : List (Option Entry) → Change → ℕ
@@ -110,12 +110,12 @@ pub record IsNew (before : List (Option Entry)) (changes : List Change) (f i : �
 old_if_same : (before after : List (Option Entry)) (f i : ℕ) → entry_in after f ≡ entry_in before f → IsOld before after f i
 old_if_same before after f i same j x less is = is_extent before f j x (ap (λ (e : Option Entry). slice_get (extents_of_file e) j) (sym same) ∙ has_extent after f j x is)
 
-changed_extent : (before : List (Option Entry)) (changes : List Change) (f i : ℕ) (x : Extent) → IsExtent (changed before changes) f i x → IsChanged before changes f
-    → IsOld before (changed before changes) f i ⊎ IsNew before changes f i x
+changed_extent : (before : List (Option Entry)) (changes : List Change) (f i : ℕ) (x : Extent) → IsExtent (entries_after before changes) f i x → IsChanged before changes f
+    → IsOld before (entries_after before changes) f i ⊎ IsNew before changes f i x
 changed_extent before changes f i x is ch =
     let c = ch.change in
-    let given : (j : ℕ) (y : Extent) → IsExtent (changed before changes) f j y → slice_get (extents_of_file c.entry) j ≡ Some y =
-    λ j y there. ap (λ (e : Option Entry). slice_get (extents_of_file e) j) (sym ch.entry) ∙ has_extent (changed before changes) f j y there in
+    let given : (j : ℕ) (y : Extent) → IsExtent (entries_after before changes) f j y → slice_get (extents_of_file c.entry) j ≡ Some y =
+    λ j y there. ap (λ (e : Option Entry). slice_get (extents_of_file e) j) (sym ch.entry) ∙ has_extent (entries_after before changes) f j y there in
     ⊎_elim
     (λ (front : i < kept before c). inl (λ j y le there.
     is_extent before f j y (ap (λ g. slice_get (extents_of_file (entry_in before g)) j) (sym ch.has.file)
@@ -131,17 +131,17 @@ changed_extent before changes f i x is ch =
     }))
     (cases_lt i (kept before c))
 
-pub old_or_new : (before : List (Option Entry)) (changes : List Change) (f i : ℕ) (x : Extent) → IsExtent (changed before changes) f i x
-    → IsOld before (changed before changes) f i ⊎ IsNew before changes f i x
+pub old_or_new : (before : List (Option Entry)) (changes : List Change) (f i : ℕ) (x : Extent) → IsExtent (entries_after before changes) f i x
+    → IsOld before (entries_after before changes) f i ⊎ IsNew before changes f i x
 old_or_new before changes f i x is =
     let long = length_after before changes in
-    let inside : f < length before = let within = in_list (changed before changes) f i x is in omega (arith, long, within) in
-    ⊎_elim (changed_extent before changes f i x is) (λ same. inl (old_if_same before (changed before changes) f i same)) (file_after before changes f inside)
+    let inside : f < length before = let within = in_list (entries_after before changes) f i x is in omega (arith, long, within) in
+    ⊎_elim (changed_extent before changes f i x is) (λ same. inl (old_if_same before (entries_after before changes) f i same)) (file_after before changes f inside)
 
 -- and no new one is old
 pub new_is : (before : List (Option Entry)) (changes : List Change) (i k : ℕ) (c : Change) (x : Extent) → AreChanges before changes → slice_get changes i ≡ Some c
-    → slice_get (new_extents before c) k ≡ Some x → IsExtent (changed before changes) c.file (kept before c + k) x
-new_is before changes i k c x are is new = is_extent (changed before changes) c.file (kept before c + k) x
+    → slice_get (new_extents before c) k ≡ Some x → IsExtent (entries_after before changes) c.file (kept before c + k) x
+new_is before changes i k c x are is new = is_extent (entries_after before changes) c.file (kept before c + k) x
     (ap (λ (e : Option Entry). slice_get (extents_of_file e) (kept before c + k)) (entry_of_change before changes i c are is) ∙ sym (new_at before c k) ∙ new)
 
 pub not_old : (before after : List (Option Entry)) (f i : ℕ) (news : List Extent) → extents_of_file (entry_in after f) ≡ news → kept_count (extents_of_file (entry_in before f)) news ≤ i → i < length news
@@ -156,6 +156,6 @@ not_old before after f i news list behind within old =
     kept_ends olds news inside (has_extent before f n y (old n y behind there) ∙ sym first)
 
 pub new_is_not_old : (before : List (Option Entry)) (changes : List Change) (i k : ℕ) (c : Change) (x : Extent) → AreChanges before changes → slice_get changes i ≡ Some c
-    → slice_get (new_extents before c) k ≡ Some x → IsOld before (changed before changes) c.file (kept before c + k) → ⊥
-new_is_not_old before changes i k c x are is new = not_old before (changed before changes) c.file (kept before c + k) (extents_of_file c.entry)
+    → slice_get (new_extents before c) k ≡ Some x → IsOld before (entries_after before changes) c.file (kept before c + k) → ⊥
+new_is_not_old before changes i k c x are is new = not_old before (entries_after before changes) c.file (kept before c + k) (extents_of_file c.entry)
     (ap extents_of_file (entry_of_change before changes i c are is)) (omega arith) (slice_get_within (extents_of_file c.entry) (kept before c + k) x (sym (new_at before c k) ∙ new))

@@ -10,8 +10,8 @@ use Rattle.directories.specs.declared.entry.Extent.{Extent}
 use Rattle.directories.specs.declared.entry.Entry.{Entry}
 use Rattle.directories.specs.Checks.{IsFileGood}
 use Rattle.directories.proofs.Said.{no_extent}
-use Rattle.growth.specs.Changes.{changed, AreChanges, IsOld, TakesFree}
-use Rattle.growth.specs.Refusals.{TakesHome, IsRefused}
+use Rattle.growth.specs.Changes.{entries_after, AreChanges, IsOld, TakesFreeHomes}
+use Rattle.growth.specs.Refusals.{TakesHome, IsChangeRefused}
 use Rattle.growth.specs.Parts.{new_extents, IsMet, HasHomeOf, TakesHomeOf, HaveNone, IsApartFrom, TakeNone, IsExtentGood, AreExtentsGood, HasGoodExtents, IsChecked, AreChecked, IsFileRefused}
 use Rattle.growth.specs.declared.changes.Change.{Change}
 use Rattle.growth.specs.declared.faults.ChangeFault.{ChangeFault}
@@ -24,7 +24,7 @@ swapped x y shared = record { home = shared.home; one = shared.other; other = sh
 
 module _ (pages homes : ℕ) (before : List (Option Entry)) (changes : List Change) (are : AreChanges before changes) where
   abbrev after : List (Option Entry)
-  after = changed before changes
+  after = entries_after before changes
 
   -- what was checked of a new extent
   good_extent : AreChecked pages homes before changes (length changes) → (f i : ℕ) (x : Extent) (new : IsNew before changes f i x)
@@ -33,7 +33,7 @@ module _ (pages homes : ℕ) (before : List (Option Entry)) (changes : List Chan
       let inside = slice_get_within changes new.has.place new.change new.has.is in
       (checked new.has.place new.change inside new.has.is).extents new.place x (slice_get_within (new_extents before new.change) new.place x new.new) new.new
 
-  pub takes_free : AreChecked pages homes before changes (length changes) → TakesFree before after
+  pub takes_free : AreChecked pages homes before changes (length changes) → TakesFreeHomes before after
   takes_free checked = record {
     free = λ f i g j x y is fresh had shared. ⊎_elim
         (λ old. fresh old)
@@ -172,7 +172,7 @@ module _ (pages homes : ℕ) (before : List (Option Entry)) (changes : List Chan
         }
 
   -- a file by itself
-  pub file_refused : (i : ℕ) (c : Change) (e : Entry) → slice_get changes i ≡ Some c → c.entry ≡ Some e → (fault : ChangeFault) → IsFileRefused pages homes c.file e fault → IsRefused pages homes before after fault
+  pub file_refused : (i : ℕ) (c : Change) (e : Entry) → slice_get changes i ≡ Some c → c.entry ≡ Some e → (fault : ChangeFault) → IsFileRefused pages homes c.file e fault → IsChangeRefused pages homes before after fault
   file_refused i c e is entry (Outside g) bad =
       let there : entry_in after g ≡ Some e = ap (entry_in after) bad.0 ∙ entry_of_change before changes i c are is ∙ entry in
       record {
@@ -188,7 +188,7 @@ module _ (pages homes : ℕ) (before : List (Option Entry)) (changes : List Chan
   file_refused i c e is entry (Taken g k) bad = absurd bad
 
   pub err_refused : (i : ℕ) (c : Change) (e : Entry) → slice_get changes i ≡ Some c → c.entry ≡ Some e → (r : Result (Unit {0}) ChangeFault) → IfErr r (IsFileRefused pages homes c.file e)
-      → IfErr r (IsRefused pages homes before after)
+      → IfErr r (IsChangeRefused pages homes before after)
   err_refused i c e is entry (Ok _) bad = tt
   err_refused i c e is entry (Err fault) bad = file_refused i c e is entry fault bad
 

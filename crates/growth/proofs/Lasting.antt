@@ -8,7 +8,7 @@ use Rattle.directories.specs.{Homes.{extents_of, homes_of, HasHome}, Layouts.{en
 use Rattle.directories.specs.declared.entry.Extent.{Extent}
 use Rattle.directories.specs.declared.entry.Entry.{Entry}
 use Rattle.directories.proofs.Places.{get_left, get_right, get_counted}
-use Rattle.growth.specs.Changes.{TakesFree, PagesKeepHomes}
+use Rattle.growth.specs.Changes.{TakesFreeHomes, PagesKeepHomes}
 use Rattle.growth.specs.Parts.{extents_of_file, kept_count}
 use Rattle.growth.proofs.{Kept.{told, kept_one, kept_none}, Changed.{not_old}}
 
@@ -61,7 +61,7 @@ home_there : (entries : List (Option Entry)) (f p h : ℕ) (entry : Option Entry
 home_there entries f p h None file home = absurd (none-some h home)
 home_there entries f p h (Some e) file home = record { entry = e; file = file; home = home }
 
-pub keep_homes : (before after : List (Option Entry)) → TakesFree before after → PagesKeepHomes before after
+pub keep_homes : (before after : List (Option Entry)) → TakesFreeHomes before after → PagesKeepHomes before after
 keep_homes before after free f p h has = ⊎_elim
     (λ same. inl (home_there before f p h (entry_in before f) refl same))
     (λ (new : IsBehind (extents_of has.entry) (kept_count (extents_of_file (entry_in before f)) (extents_of has.entry)) h). inr (λ g j y had at.

@@ -13,17 +13,17 @@ change_of [] f = None
 change_of (c ∷ cs) f = if c.file == f then Some c else change_of cs f
 
 -- the entry that a change gives, or where there is none what it was
-abbrev pub entry_by : Option Change → Option Entry → Option Entry
-entry_by None was = was
-entry_by (Some c) was = c.entry
+abbrev pub entry_then : Option Change → Option Entry → Option Entry
+entry_then None was = was
+entry_then (Some c) was = c.entry
 
 -- the entry of file f after these changes
 abbrev pub entry_after : List (Option Entry) → List Change → ℕ → Option Entry
-entry_after entries changes f = entry_by (change_of changes f) (entry_in entries f)
+entry_after entries changes f = entry_then (change_of changes f) (entry_in entries f)
 
 -- all entries after them
-unfoldable pub changed : List (Option Entry) → List Change → List (Option Entry)
-changed entries changes = map (λ f. entry_after entries changes f) (range_with_len 0 (length entries))
+unfoldable pub entries_after : List (Option Entry) → List Change → List (Option Entry)
+entries_after entries changes = map (λ f. entry_after entries changes f) (range_with_len 0 (length entries))
 
 -- These are changes of a directory:
 pub record AreChanges (entries : List (Option Entry)) (changes : List Change) : Type 0 where
@@ -39,7 +39,7 @@ abbrev pub IsOld : List (Option Entry) → List (Option Entry) → ℕ → ℕ �
 IsOld before after f i = (j : ℕ) (x : Extent) → j ≤ i → IsExtent after f j x → IsExtent before f j x
 
 -- New extents have no home that an extent had before: a home that one commit gives back may be given out by the next, and not by the same.
-pub record TakesFree (before after : List (Option Entry)) : Type 0 where
+pub record TakesFreeHomes (before after : List (Option Entry)) : Type 0 where
   pub free : (f i g j : ℕ) (x y : Extent) → IsExtent after f i x → (IsOld before after f i → ⊥) → IsExtent before g j y → ShareHome x y → ⊥
 
 -- no extent has home h

@@ -19,8 +19,8 @@ pub record TakesHome (before after : List (Option Entry)) (f g : ℕ) : Type 0 w
   pub shared : ShareHome extent other
 
 -- each fault is told for its reason alone
-abbrev pub IsRefused : ℕ → ℕ → List (Option Entry) → List (Option Entry) → ChangeFault → Type 0
-IsRefused pages homes before after (Outside f) = LiesOutside pages homes after f
-IsRefused pages homes before after (Short f) = IsShort after f
-IsRefused pages homes before after (Shared f g) = SharesHome after f g
-IsRefused pages homes before after (Taken f g) = TakesHome before after f g
+abbrev pub IsChangeRefused : ℕ → ℕ → List (Option Entry) → List (Option Entry) → ChangeFault → Type 0
+IsChangeRefused pages homes before after (Outside f) = LiesOutside pages homes after f
+IsChangeRefused pages homes before after (Short f) = IsShort after f
+IsChangeRefused pages homes before after (Shared f g) = SharesHome after f g
+IsChangeRefused pages homes before after (Taken f g) = TakesHome before after f g

@@ -3,8 +3,8 @@ ghost use Rattle.std.specs.Prelude.{ℕ, ◌≤◌, ◌<◌, length, get_or, OnO
 ghost use Rattle.directories.specs.declared.entry.Extent.{Extent};
 ghost use Rattle.directories.specs.Layouts.{IsGoodLayout};
 ghost use Rattle.directories.specs.Checks.{LiesWithin, HasOutside, IsFileGood};
-ghost use Rattle.growth.specs.Changes.{changed, AreChanges, TakesFree};
-ghost use Rattle.growth.specs.Refusals.{IsRefused};
+ghost use Rattle.growth.specs.Changes.{entries_after, AreChanges, TakesFreeHomes};
+ghost use Rattle.growth.specs.Refusals.{IsChangeRefused};
 ghost use Rattle.growth.specs.Parts.{IsChecked, IsFileRefused, HasGoodExtents};
 
 use crate::changes::Change;
@@ -25,9 +25,9 @@ pub fn check_changes(
     requires few { length before.now ≤ 4096 }
     requires good { IsGoodLayout pages homes before.now }
     requires changes { AreChanges before.now changes.now }
-    ensures good { OnOk result (IsGoodLayout pages homes (changed before.now changes.now)) }
-    ensures free { OnOk result (TakesFree before.now (changed before.now changes.now)) }
-    ensures refused { IfErr result (IsRefused pages homes before.now (changed before.now changes.now)) }
+    ensures good { OnOk result (IsGoodLayout pages homes (entries_after before.now changes.now)) }
+    ensures free { OnOk result (TakesFreeHomes before.now (entries_after before.now changes.now)) }
+    ensures refused { IfErr result (IsChangeRefused pages homes before.now (entries_after before.now changes.now)) }
 {
     for i in 0..changes.len() {
         check_change(before, changes, i, pages, homes)?;
@@ -47,7 +47,7 @@ fn check_change(
     requires changes { AreChanges before.now changes.now }
     requires place { i < length changes.now }
     ensures good { OnOk result (IsChecked pages homes before.now changes.now i) }
-    ensures refused { IfErr result (IsRefused pages homes before.now (changed before.now changes.now)) }
+    ensures refused { IfErr result (IsChangeRefused pages homes before.now (entries_after before.now changes.now)) }
 {
     let change = &changes[i];
     if let Some(entry) = &change.entry {
@@ -62,7 +62,7 @@ fn check_extents(before: &[Option<Entry>], changes: &[Change], i: usize) -> Resu
     requires changes { AreChanges before.now changes.now }
     requires place { i < length changes.now }
     ensures good { OnOk result (HasGoodExtents before.now changes.now i) }
-    ensures refused { (pages homes : ℕ) → IfErr result (IsRefused pages homes before.now (changed before.now changes.now)) }
+    ensures refused { (pages homes : ℕ) → IfErr result (IsChangeRefused pages homes before.now (entries_after before.now changes.now)) }
 {
     let file = changes[i].file;
     let own = new_extents(before, &changes[i]);
