@@ -58,8 +58,8 @@ fn check_file(file: u32, entry: &Entry, pages: u32, homes: u64) -> Result<(), La
     Ok(())
 }
 
-/// Whether each home of these extents is on the device, behind the directory.
-fn lie_within(extents: &[Extent], pages: u32, homes: u64) -> bool
+/// Whether each home of these extents is one of the device's `homes`, behind a directory of so many pages.
+pub fn lie_within(extents: &[Extent], pages: u32, homes: u64) -> bool
     ensures all { IsTrue result → (i : ℕ) (d : Extent) → i < length extents.now → LiesWithin pages homes (get_or extents.now i d) }
     ensures one { IsFalse result → (i : ℕ) × (i < length extents.now) × ((d : Extent) → HasOutside pages homes (get_or extents.now i d)) }
 {

@@ -22,14 +22,14 @@ impl Entry {
     }
 
     /// How many pages the file has.
-    pub(crate) fn pages(&self) -> u64
+    pub fn pages(&self) -> u64
         ensures { result ≡ pages_of_length self.now.length }
     {
         self.length.div_ceil(vm_types::PAGE_BYTES as u64)
     }
 
     /// How many homes its extents have.
-    pub(crate) fn homes(&self) -> u64
+    pub fn homes(&self) -> u64
         ensures { result ≡ length (homes_of (extents_of self.now)) }
     {
         count_homes(self.extents())

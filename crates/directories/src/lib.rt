@@ -31,7 +31,7 @@ mod laws;
 mod numbers;
 mod pieces;
 
-pub use checking::{MAX_FILES, check};
+pub use checking::{MAX_FILES, check, lie_within};
 pub use entries::{PAGE_ENTRIES, read_entry, write_entry};
 pub use entry::{Entry, EntryFault, Extent};
 pub use faults::LayoutFault;

@@ -96,7 +96,7 @@ module _ {D : Type 0} (g : Ghosts D) where
 
   module _ (old new : D) (run : Mounts g old new) where
     -- it may be read and committed to
-    ready : (journal : Journal) (directory : Directory) → live_homes journal ≡ [] → IsMounted g old new directory → IsReadyStore g (record { disk = new; journal = journal; directory = directory; room = tt })
+    ready : (journal : Journal) (directory : Directory) → live_homes journal ≡ [] → IsMounted g old new directory → IsReadyStore g (record { disk = new; journal = journal; directory = directory })
     ready journal directory none ok = record {
       room = subst (λ n. first_home_sector ≤ n) (sym run.size) ok.room;
       sound = subst (λ n. IsSoundDirectory (home_count n) (entry_of directory)) (sym run.size) ok.sound;
@@ -105,7 +105,7 @@ module _ {D : Type 0} (g : Ghosts D) where
     }
 
     -- the store is open
-    pub opens : (journal : Journal) (directory : Directory) → live_homes journal ≡ [] → IsMounted g old new directory → OpensFrom g old (record { disk = new; journal = journal; directory = directory; room = tt })
+    pub opens : (journal : Journal) (directory : Directory) → live_homes journal ≡ [] → IsMounted g old new directory → OpensFrom g old (record { disk = new; journal = journal; directory = directory })
     opens journal directory none ok = record {
       ready = ready journal directory none ok;
       bounded = bounded directory;

@@ -9,7 +9,7 @@ module _ {D : Type 0} (g : Ghosts D) where
       → AreHomes (home_count (g.sector_count old.disk)) homes → live_homes journal ≡ homes
       → (g.keeps_model disk → IsAtRest g homes disk)
       → (g.keeps_model disk → (k : ℕ) → IsOutside (g.sector_count old.disk) k → g.content disk k ≡ g.content old.disk k)
-      → IsReadyStore g (record { disk = disk; journal = journal; directory = old.directory; room = tt })
+      → IsReadyStore g (record { disk = disk; journal = journal; directory = old.directory })
   ready_with old disk journal homes ready size kept are live rest outside = record {
     room = subst (λ n. first_home_sector ≤ n) (sym size) ready.room;
     sound = subst (λ n. IsSoundDirectory (home_count n) (entry_of old.directory)) (sym size) ready.sound;
@@ -26,6 +26,6 @@ module _ {D : Type 0} (g : Ghosts D) where
       → AreHomes (home_count (g.sector_count old.disk)) homes → OnOk result (live_homes journal ≡ homes)
       → (g.keeps_model disk → OnOk result (IsAtRest g homes disk))
       → (g.keeps_model disk → OnOk result ((k : ℕ) → IsOutside (g.sector_count old.disk) k → g.content disk k ≡ g.content old.disk k))
-      → OnOk result (IsReadyStore g (record { disk = disk; journal = journal; directory = old.directory; room = tt }))
+      → OnOk result (IsReadyStore g (record { disk = disk; journal = journal; directory = old.directory }))
   ready_again (Err e) old disk journal homes ready size kept are live rest outside = tt
   ready_again (Ok x) old disk journal homes ready size kept are live rest outside = ready_with old disk journal homes ready size kept are live rest outside

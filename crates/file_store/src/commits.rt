@@ -30,8 +30,8 @@ impl<D: SectorDisk> FileStore<D> {
         requires gives { (i : ℕ) → i < length pages.now → S.gives source.old i }
         ensures { CommitsPages D.SectorDisk S.PageSource self.old self.new pages.now source.old source.new result }
     {
-        let homes = self.room.list();
-        fill_homes(&self.directory, pages, homes);
+        let mut homes = [0; PAGE_LIMIT];
+        fill_homes(&self.directory, pages, &mut homes);
         let mut source = Trimmed {
             source,
             pages,

@@ -27,7 +27,6 @@ mod old_store;
 mod opening;
 mod pages;
 mod resuming;
-mod room;
 mod sources;
 mod store;
 mod trimmed;

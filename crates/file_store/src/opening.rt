@@ -12,7 +12,6 @@ ghost use Rattle.file_store.specs.Store.{IsMounted};
 use crate::directory::Directory;
 use crate::faults::OpenFault;
 use crate::layout::MARK_SECTOR;
-use crate::room::HomeRoom;
 use crate::store::FileStore;
 use crate::version::{directory_sector, marks};
 use disk_model::{SECTOR_BYTES, SectorDisk};
@@ -37,7 +36,6 @@ impl<D: SectorDisk> FileStore<D> {
                 disk,
                 journal: Journal::closed(),
                 directory,
-                room: HomeRoom::new(),
             }),
             Err(fault) => Err((fault, disk)),
         }

@@ -6,7 +6,6 @@ ghost use Rattle.file_store.specs.Store.{IsMounted};
 use crate::directory::Directory;
 use crate::faults::OpenFault;
 use crate::opening::read_layout;
-use crate::room::HomeRoom;
 use crate::store::FileStore;
 use disk_model::{SECTOR_BYTES, SectorDisk};
 use sync_journal::{Journal, Version, recover_synced};
@@ -29,7 +28,6 @@ impl<D: SectorDisk> FileStore<D> {
                 disk,
                 journal: Journal::closed(),
                 directory,
-                room: HomeRoom::new(),
             }),
             Err(fault) => Err((fault, disk)),
         }

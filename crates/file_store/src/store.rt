@@ -6,7 +6,6 @@ ghost use Rattle.file_store.specs.Store.{files_of, IsReadyStore, ReadsFilePage};
 
 use crate::directory::Directory;
 use crate::pages::trim;
-use crate::room::HomeRoom;
 use disk_model::{DiskFault, SectorDisk};
 use sync_journal::Journal;
 use vm_types::{FileInfo, FilePage};
@@ -17,7 +16,6 @@ pub struct FileStore<D> {
     pub(crate) disk: D,
     pub(crate) journal: Journal,
     pub(crate) directory: Directory,
-    pub(crate) room: HomeRoom,
 }
 
 impl<D: SectorDisk> FileStore<D> {

@@ -5,3 +5,4 @@ pub mod Changed
 pub mod Checked
 pub mod Lasting
 pub mod Widened
+pub mod Resized

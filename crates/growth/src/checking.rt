@@ -1,17 +1,16 @@
 //! Whether a commit may make changes.
-ghost use Rattle.std.specs.Prelude.{ℕ, ◌≤◌, ◌<◌, length, get_or, OnOk, IfErr, IsTrue, IsFalse};
-ghost use Rattle.directories.specs.declared.entry.Extent.{Extent};
+ghost use Rattle.std.specs.Prelude.{ℕ, ◌≤◌, ◌<◌, length, OnOk, IfErr};
 ghost use Rattle.directories.specs.Layouts.{IsGoodLayout};
-ghost use Rattle.directories.specs.Checks.{LiesWithin, HasOutside, IsFileGood};
+ghost use Rattle.directories.specs.Checks.{IsFileGood};
 ghost use Rattle.growth.specs.Changes.{entries_after, AreChanges, TakesFreeHomes};
 ghost use Rattle.growth.specs.Refusals.{IsChangeRefused};
 ghost use Rattle.growth.specs.Parts.{IsChecked, IsFileRefused, HasGoodExtents};
 
 use crate::changes::Change;
-use crate::extents::{end_of, file_homes, find_meeting, new_extents, page_count};
+use crate::extents::{find_meeting, new_extents};
 use crate::faults::ChangeFault;
 use crate::searching::{find_held, find_taking};
-use directories::{Entry, Extent};
+use directories::{Entry, lie_within};
 
 /// Whether one commit may make these changes of a good directory of so many pages, on a device of so many homes: the
 /// directory is good afterwards too, and no new extent has a home that an extent had before. Each fault is told for its
@@ -88,29 +87,8 @@ fn check_file(file: u32, entry: &Entry, pages: u32, homes: u64) -> Result<(), Ch
     if !lie_within(entry.extents(), pages, homes) {
         return Err(ChangeFault::Outside(file));
     }
-    if file_homes(entry) < page_count(entry) {
+    if entry.homes() < entry.pages() {
         return Err(ChangeFault::Short(file));
     }
     Ok(())
-}
-
-/// Whether each home of these extents is on the device, behind the directory.
-fn lie_within(extents: &[Extent], pages: u32, homes: u64) -> bool
-    ensures all { IsTrue result → (i : ℕ) (d : Extent) → i < length extents.now → LiesWithin pages homes (get_or extents.now i d) }
-    ensures one { IsFalse result → (i : ℕ) × (i < length extents.now) × ((d : Extent) → HasOutside pages homes (get_or extents.now i d)) }
-{
-    for extent in extents {
-        if !lies_within(extent, pages, homes) {
-            return false;
-        }
-    }
-    true
-}
-
-/// Whether each home of an extent is on the device, behind the directory.
-fn lies_within(extent: &Extent, pages: u32, homes: u64) -> bool
-    ensures all { IsTrue result → LiesWithin pages homes extent.now }
-    ensures one { IsFalse result → HasOutside pages homes extent.now }
-{
-    extent.count == 0 || (pages <= extent.first && end_of(extent) <= homes)
 }

@@ -1,8 +1,6 @@
 //! Extents, one and several.
 ghost use Rattle.std.specs.Prelude.{◌≡◌, ◌≤◌, ◌<◌, ◌+◌, length, MatchOption, IsTrue, IsFalse};
-ghost use Rattle.directories.specs.Homes.{homes_of, pages_of_length};
 ghost use Rattle.directories.specs.Layouts.{ShareHome};
-ghost use Rattle.growth.specs.Room.{file_homes};
 ghost use Rattle.growth.specs.Parts.{extents_of_file, kept_count, new_extents, IsApartFrom, IsMet};
 
 use crate::changes::Change;
@@ -33,32 +31,6 @@ pub(crate) fn find_meeting(extents: &[Extent], extent: &Extent) -> Option<Extent
         }
     }
     None
-}
-
-/// How many homes these extents have.
-fn count_homes(extents: &[Extent]) -> u64
-    requires { length extents.now ≤ 30 }
-    ensures { result ≡ length (homes_of extents.now) }
-{
-    let mut count = 0;
-    for extent in extents {
-        count += u64::from(extent.count);
-    }
-    count
-}
-
-/// How many homes a file has.
-pub(crate) fn file_homes(entry: &Entry) -> u64
-    ensures { result ≡ file_homes entry.now }
-{
-    count_homes(entry.extents())
-}
-
-/// How many pages a file has.
-pub(crate) fn page_count(entry: &Entry) -> u64
-    ensures { result ≡ pages_of_length entry.now.length }
-{
-    entry.length.div_ceil(vm_types::PAGE_BYTES as u64)
 }
 
 /// The extents of a file, if there is one.

@@ -4,7 +4,7 @@ ghost use Rattle.directories.specs.Homes.{extents_of};
 ghost use Rattle.growth.specs.Room.{HasNoRun, IsRunOf, HasNoRoom, GivesRoom, IsRoom, IsWider};
 
 use crate::changes::Change;
-use crate::extents::{end_of, extents_of_file, file_homes};
+use crate::extents::{end_of, extents_of_file};
 use crate::room::Homes;
 use crate::searching::find_used;
 use directories::{EXTENTS, Entry, Extent};
@@ -25,7 +25,7 @@ pub fn widen(
     requires { length before.now ≤ 4096 }
     ensures { MatchOption result (HasNoRoom before.now changes.now entry.now count room) (GivesRoom before.now changes.now entry.now count room) }
 {
-    let homes = file_homes(entry);
+    let homes = entry.homes();
     if count <= homes {
         return Some(*entry);
     }
@@ -74,7 +74,7 @@ fn find_room(
     requires some { 0 < missing }
     ensures { MatchOption result (HasNoRun before.now changes.now entry.now room missing) (IsRoom before.now changes.now entry.now room missing) }
 {
-    let wanted = file_homes(entry).max(LEAST).max(missing);
+    let wanted = entry.homes().max(LEAST).max(missing);
     match find_run(before, changes, entry, wanted, room) {
         Some(run) => Some(run),
         None => find_run(before, changes, entry, missing, room),

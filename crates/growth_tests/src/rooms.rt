@@ -2,7 +2,7 @@
 use crate::bench::equal;
 use crate::files::{file, files, with_third};
 use directories::{EXTENTS, Entry, Extent};
-use growth::{Change, Homes, widen};
+use growth::{Change, Homes, resize, widen};
 
 /// File 0 with room for so many pages, where a change gives file 1 homes 20 to 25.
 fn wider(count: u64, first: u32, end: u32) -> Option<Entry> {
@@ -15,6 +15,23 @@ fn wider(count: u64, first: u32, end: u32) -> Option<Entry> {
         return None;
     };
     widen(&before, &changes, &entry, count, Homes { first, end })
+}
+
+/// File 0 where it gets a length of so many bytes, and a change gives file 1 homes 20 to 25: its length, how many homes it has, and that of this page.
+fn resized(bytes: u64, page: u64) -> Option<(u64, u64, Option<u64>)> {
+    let before = files();
+    let changes = [Change {
+        file: 1,
+        entry: file(6, (20, 6), (0, 0)),
+    }];
+    let Some(entry) = before[0] else {
+        return None;
+    };
+    let room = Homes { first: 4, end: 200 };
+    match resize(&before, &changes, &entry, bytes, room) {
+        Some(now) => Some((now.length, now.homes(), now.home_of_page(page))),
+        None => None,
+    }
 }
 
 // As it was; behind all that is in use 64 homes, or what is missing; 64 in a gap; what is missing alone behind all, and in a gap; nowhere.
@@ -31,6 +48,20 @@ fn room_is_found(rt: HostRuntime) {
         (70, 4, 100, None),
     ] {
         equal(&rt, (count, wider(count, first, end)), (count, found));
+    }
+}
+
+// Nothing; the first extent alone; both; a third one behind all that is in use; nowhere.
+#[test]
+fn lengths_need_extents(rt: HostRuntime) {
+    for (bytes, page, found) in [
+        (0, 0, Some((0, 0, None))),
+        (16384, 3, Some((16384, 4, Some(7)))),
+        (16385, 4, Some((16385, 5, Some(90)))),
+        (20481, 5, Some((20481, 69, Some(91)))),
+        (1_000_000, 0, None),
+    ] {
+        equal(&rt, (bytes, resized(bytes, page)), (bytes, found));
     }
 }
 

@@ -12,11 +12,13 @@ pub mod Filled
 pub mod Found
 pub mod Free
 pub mod Loose
+pub mod Marks
 pub mod Phases
 pub mod Recovered
 pub mod Resumed
 pub mod Room
 pub mod Round
+pub mod Runs
 pub mod Slots
 pub mod Stages
 pub mod Staging

@@ -7,7 +7,7 @@ use mir.Val.{bool_byte}
 use Rattle.sync_journal.{proofs.Images.{Means, place_means}, specs.Map.{home_rank}}
 
 -- of rising homes a later one is no lower
-up : (homes : List ℕ) → AreRising homes → (i j : ℕ) → i ≤ j → j < length homes → get_or homes i 0 ≤ get_or homes j 0
+pub up : (homes : List ℕ) → AreRising homes → (i j : ℕ) → i ≤ j → j < length homes → get_or homes i 0 ≤ get_or homes j 0
 up homes rising i j le below = ⊎_elim (λ same. (let e : get_or homes i 0 ≡ get_or homes j 0 = ap (λ k. get_or homes k 0) same in omega (arith, e)))
     (λ other. (let less : get_or homes i 0 < get_or homes j 0 = rising i j (omega (arith, le, other)) below in omega (arith, less)))
     (cases_eq i j)

@@ -1,8 +1,9 @@
 -- How a commit changes a map in memory: which slots are taken from homes, and which are given to others.
-use Rattle.std.specs.Prelude.{ℕ, zero, suc, ◌+◌, ◌*◌, ◌<◌, ◌≡◌, Bool, true, false, List, length, slice_index, slice_index_or, is_some, if◌then◌else◌, ◌==◌}
+use Rattle.std.specs.Prelude.{ℕ, zero, suc, ◌+◌, ◌*◌, ◌%◌, ◌<◌, ◌≤◌, ◌≡◌, ◌⊎◌, Bool, true, false, List, length, slice_index, slice_index_or, is_some, if◌then◌else◌, ◌==◌}
 use Rattle.sync_journal.specs.Map.{home_rank}
 use Rattle.pool_journal.specs.Maps.{entries_of, IsMapOf}
 use Rattle.pool_journal.specs.declared.map.SlotMap.{SlotMap}
+use Rattle.pool_journal.specs.declared.sieve.Sieve.{Sieve}
 use Rattle.pool_journal.specs.declared.slot.Slot.{Slot}
 
 -- homes in rising order, none twice
@@ -18,6 +19,26 @@ number_but homes (suc h) = if is_some (home_rank homes h) then 0 else suc h
 unfoldable pub live_among : (ℕ → ℕ) → ℕ → ℕ
 live_among names zero = 0
 live_among names (suc n) = live_among names n + (if names n == 0 then 0 else 1)
+
+-- A table of marks is of some homes:
+pub record IsSieveOf (homes : List ℕ) (sieve : Sieve) : Type 0 where
+  pub size : length sieve.marks ≡ 4096
+  -- each of them has its mark, by its low bits,
+  pub marked : (j : ℕ) → j < length homes → slice_index_or sieve.marks (slice_index homes j % 4096) false ≡ true
+  -- and no other mark is there.
+  pub only : (b : ℕ) → slice_index_or sieve.marks b false ≡ true → (j : ℕ) × (j < length homes) × (slice_index homes j % 4096 ≡ b)
+
+-- Homes keep none of the n slots from one on, in a body that gives its slots to these numbers:
+pub record ForgetsRun (homes : List ℕ) (from n : ℕ) (old new : List ℕ) (gone : ℕ) : Type 0 where
+  -- one of those that was given to such a home is free, or it is given to what it was,
+  pub forgotten : (r : ℕ) → from ≤ r → r < from + n → slice_index new r ≡ number_but homes (slice_index old r)
+  -- as every other one is;
+  pub others : (r : ℕ) → (r < from) ⊎ (from + n ≤ r) → slice_index new r ≡ slice_index old r
+  pub size : length new ≡ length old
+  -- so many were given to such a home,
+  pub counted : gone + live_among (λ r. slice_index new r) (length old) ≡ live_among (λ r. slice_index old r) (length old)
+  -- at most all of them.
+  pub most : gone ≤ n
 
 -- Homes keep no slot:
 pub record Forgets (homes : List ℕ) (old new : SlotMap) (gone : ℕ) : Type 0 where

@@ -36,6 +36,7 @@ mod pool;
 mod reading;
 mod recovering;
 mod searches;
+mod sieve;
 mod sizes;
 mod slot;
 mod taking;

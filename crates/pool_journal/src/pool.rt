@@ -75,7 +75,6 @@ impl PoolJournal {
     pub(crate) fn begin(&mut self, homes: &[u32]) -> bool
         requires is { IsPoolJournal self.old }
         requires rising { AreRising homes.now }
-        requires low { (j : ℕ) → get_or homes.now j 0 < 2 ^ 30 }
         requires few { length homes.now < 2 ^ 32 }
         ensures { BeginsMap homes.now self.old self.new result }
     {
@@ -95,7 +94,6 @@ impl PoolJournal {
         requires is { IsPoolJournal self.old }
         requires pool { HasPool D.SectorDisk self.old.sizes disk.old }
         requires rising { AreRising homes.now }
-        requires low { (j : ℕ) → get_or homes.now j 0 < 2 ^ 30 }
         requires few { length homes.now < 2 ^ 32 }
         ensures { MakesRoom D.SectorDisk homes.now self.old self.new disk.old disk.new result }
     {

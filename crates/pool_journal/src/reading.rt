@@ -32,6 +32,16 @@ impl PoolJournal {
     {
         read_page_of(disk, self.sizes, &self.map, home, to)
     }
+
+    /// The first sector of the page that stands for a home, which is below 2^30, between two commits: of a slot, or of the home itself.
+    pub fn stands_at(&self, home: u32) -> u64
+        requires is { IsPoolJournal self.now }
+        requires home { home < 2 ^ 30 }
+        ensures at { result ≡ pool_stands self.now.sizes.blocks home (slot_by self.now.sizes.blocks (entries_of self.now.map) home) }
+        ensures inside { result ≤ pool_home self.now.sizes.blocks home }
+    {
+        stands_at(self.sizes, &self.map, home)
+    }
 }
 
 /// Reads the page that stands for a home under a map.

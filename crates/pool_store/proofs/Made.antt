@@ -155,10 +155,17 @@ module _ {R : Type 0} where
         omega (arith, homes, size);
   }
 
+  few_extents : (sources : List (FileSource R)) (f : ℕ) (e : Entry) → entry_given sources f ≡ Some e → e.extent_count ≤ 30
+  few_extents sources f e is =
+      let from = comes_from sources f e is in
+      let count = ap (λ (x : Entry). x.extent_count) from.is in
+      let one = counted (new_pages + first_home sources f) (pages_of_length from.source.length) in
+      omega (arith, count, one)
+
   pub may_be : (n : ℕ) (sources : List (FileSource R)) → length sources ≤ 64 → new_pages + total_pages sources ≤ n → AreShort sources 64 → AreEntries new_pages n (entries_given sources)
   may_be n sources few fit short = record {
     size = long sources;
-    bounded = λ f e is. ⊎_elim (λ below. (below, short f e below (sym (listed sources few f) ∙ is)))
+    bounded = λ f e is. ⊎_elim (λ below. (below, short f e below (sym (listed sources few f) ∙ is), few_extents sources f e (sym (listed sources few f) ∙ is)))
         (λ past. absurd (none-some e (sym (given_past sources f (omega (arith, few, past))) ∙ sym (listed sources few f) ∙ is))) (cases_lt f 64);
     good = good_entries n sources few fit;
   }

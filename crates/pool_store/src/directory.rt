@@ -8,7 +8,7 @@ use vm_types::{FileInfo, FilePage};
 
 /// What a store's files are.
 #[derive(Drop)]
-pub(crate) struct Directory {
+pub struct Directory {
     /// How many pages it has on the device, 1 to 256.
     pub pages: u32,
     /// One for each file that these have room for.
@@ -24,14 +24,14 @@ impl Directory {
     ghost use Rattle.pool_store.specs.Store.{entry_of, info_by, home_of, IsDirectoryOn};
 
     /// The entry of a file of any number.
-    pub(crate) fn entry(&self, n: usize) -> Option<&Entry>
+    pub fn entry(&self, n: usize) -> Option<&Entry>
         ensures { option_copied result ≡ entry_of self.now n }
     {
         self.entries.get(n)?.as_ref()
     }
 
     /// What is fixed of a file of any number.
-    pub(crate) fn info(&self, n: usize) -> Option<FileInfo>
+    pub fn info(&self, n: usize) -> Option<FileInfo>
         ensures info { result ≡ info_by self.now n }
         ensures number { IsSome result → n < file_limit }
     {
@@ -43,7 +43,7 @@ impl Directory {
     }
 
     /// The home of a page that begins inside its file: one of the device's, of which there are `2 ^ 30` at most.
-    pub(crate) fn home_of(&self, page: FilePage) -> u32
+    pub fn home_of(&self, page: FilePage) -> u32
         requires on { (homes : ℕ) × (homes ≤ 2 ^ 30) × IsDirectoryOn homes self.now }
         requires inside { IsPageOf (info_by self.now) page.file page.page }
         ensures home { home_of self.now page ≡ Some result }

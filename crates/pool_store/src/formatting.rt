@@ -118,8 +118,8 @@ fn write_inner<D: SectorDisk, R: Read>(
     write_homes(disk, sizes, sources)
 }
 
-/// Writes the kind, and syncs.
-fn write_kind<D: SectorDisk>(disk: &mut D, blocks: u32) -> Result<(), DiskFault>
+/// Writes the kind of a store with maps of `blocks` blocks, 1 to 2,048, and a directory of 4 pages, and syncs. An error comes only where the device failed.
+pub fn write_kind<D: SectorDisk>(disk: &mut D, blocks: u32) -> Result<(), DiskFault>
     requires maps { IsMapSize blocks }
     requires room { 1 < D.sector_count disk.old }
     ensures { SyncsInto D.SectorDisk IsKindSector IsKindSector (IsKind blocks new_pages (D.content disk.new 1)) disk.old disk.new result }
@@ -132,8 +132,8 @@ fn write_kind<D: SectorDisk>(disk: &mut D, blocks: u32) -> Result<(), DiskFault>
     disk.sync()
 }
 
-/// Writes the mark, and syncs.
-fn write_mark<D: SectorDisk>(disk: &mut D) -> Result<(), DiskFault>
+/// Writes the mark, and syncs. An error comes only where the device failed.
+pub fn write_mark<D: SectorDisk>(disk: &mut D) -> Result<(), DiskFault>
     requires { 0 < D.sector_count disk.old }
     ensures { SyncsInto D.SectorDisk IsMarkSector IsMarkSector (D.content disk.new 0 ≡ pool_mark) disk.old disk.new result }
 {

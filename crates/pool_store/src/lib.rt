@@ -33,8 +33,11 @@ mod sizes;
 mod store;
 mod tidying;
 
+pub use directory::Directory;
 pub use faults::OpenFault;
-pub use formatting::format;
+pub use formatting::{format, write_kind, write_mark};
+pub use new_directory::extents_of;
 pub use opening::stops_in_a_row;
+pub use room::{CommitRoom, Place};
 pub use sizes::{DIRECTORY_PAGES, image_bytes};
 pub use store::PoolStore;

@@ -98,7 +98,7 @@ fn length_of<R>(source: &FileSource<R>) -> u64
 }
 
 /// One extent of so many homes, or none where they are none, and behind it none.
-fn extents_of(first: u32, count: u32) -> [Extent; EXTENTS]
+pub fn extents_of(first: u32, count: u32) -> [Extent; EXTENTS]
     ensures { result ≡ extents_room first count }
 {
     let mut extents = [Extent { first: 0, count: 0 }; EXTENTS];

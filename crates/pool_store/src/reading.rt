@@ -1,5 +1,5 @@
 //! The directory on the device.
-ghost use Rattle.std.specs.Prelude.{◌≡◌, ◌≤◌, ◌+◌, ℕ, vec_len, vec_capacity, IsTrue, IsFalse, OnOk, OnErr};
+ghost use Rattle.std.specs.Prelude.{◌≡◌, ◌≤◌, ◌<◌, ◌+◌, ◌^◌, ℕ, vec_len, vec_capacity, IsTrue, IsFalse, OnOk, OnErr};
 ghost use Rattle.directories.specs.Kinds.{IsDirectorySize};
 ghost use Rattle.pool_journal.specs.{Journal.{IsPoolJournal}, Maps.{entries_of}, Pools.{IsPoolRest}, Sizes.{HasPool}};
 ghost use Rattle.pool_store.specs.Pools.{HaveBounds};
@@ -7,7 +7,7 @@ ghost use Rattle.pool_store.specs.Reading.{ReadsDirectory, ReadsEntries, Appends
 
 use crate::directory::Directory;
 use crate::faults::OpenFault;
-use directories::{Entry, EntryFault, PAGE_ENTRIES, check, read_entry};
+use directories::{EXTENTS, Entry, EntryFault, PAGE_ENTRIES, check, read_entry};
 use disk_model::SectorDisk;
 use pool_journal::PoolJournal;
 use std::alloc::Global;
@@ -73,17 +73,25 @@ fn take_page(page: &[u8; 4096], entries: &mut Vec<Option<Entry>>) -> Result<(), 
     Ok(())
 }
 
-/// Whether the files' numbers are below 64, and their lengths numbers of four bytes.
+/// Whether the files' numbers are below 64, their lengths numbers of four bytes, and their extents 30 at most.
 fn are_bounded(entries: &[Option<Entry>]) -> bool
     ensures all { IsTrue result → HaveBounds entries.now }
     ensures one { IsFalse result → HaveBounds entries.now → ⊥ }
 {
     for (file, entry) in entries.iter().enumerate() {
         if let Some(entry) = entry {
-            if file >= FILES || entry.length > u64::from(u32::MAX) {
+            if file >= FILES || !is_bounded(entry) {
                 return false;
             }
         }
     }
     true
+}
+
+/// Whether the length of a file is a number of four bytes, and its extents are 30 at most.
+fn is_bounded(entry: &Entry) -> bool
+    ensures all { IsTrue result → (entry.now.length < 2 ^ 32) × (entry.now.extent_count ≤ 30) }
+    ensures one { IsFalse result → (entry.now.length < 2 ^ 32) × (entry.now.extent_count ≤ 30) → ⊥ }
+{
+    entry.length <= u64::from(u32::MAX) && entry.extent_count <= EXTENTS as u32
 }

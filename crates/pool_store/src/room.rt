@@ -13,7 +13,7 @@ use vm_types::FilePage;
 
 /// A page of a commit.
 #[derive(Clone, Copy, Debug, PartialEq, Eq)]
-pub(crate) struct Place {
+pub struct Place {
     /// Its home.
     pub home: u32,
     /// Which one it is of the caller's list.
@@ -22,7 +22,7 @@ pub(crate) struct Place {
 
 /// Room for the pages of one commit after the other.
 #[derive(Drop)]
-pub(crate) struct CommitRoom {
+pub struct CommitRoom {
     /// The pages, by their homes.
     pub places: Vec<Place>,
     /// Their homes, rising.
@@ -43,7 +43,7 @@ impl CommitRoom {
     }
 
     /// Puts pages that begin inside their files into the order of their homes.
-    pub(crate) fn place(&mut self, directory: &Directory, pages: &[FilePage])
+    pub fn place(&mut self, directory: &Directory, pages: &[FilePage])
         requires on { (homes : ℕ) × (homes ≤ 2 ^ 30) × IsDirectoryOn homes directory.now }
         requires inside { (i : ℕ) (p : FilePage) → slice_get pages.now i ≡ Some p → IsPageOf (info_by directory.now) p.file p.page }
         requires few { length pages.now < 2 ^ 32 }

@@ -14,10 +14,10 @@ use vm_types::{FileInfo, FilePage};
 /// Up to 64 files of fixed lengths in a pool on a device.
 #[derive(Drop)]
 pub struct PoolStore<D> {
-    pub(crate) disk: D,
-    pub(crate) journal: PoolJournal,
-    pub(crate) directory: Directory,
-    pub(crate) room: CommitRoom,
+    pub disk: D,
+    pub journal: PoolJournal,
+    pub directory: Directory,
+    pub room: CommitRoom,
 }
 
 impl<D: SectorDisk> PoolStore<D> {

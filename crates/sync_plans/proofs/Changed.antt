@@ -9,7 +9,7 @@ put_from files given before i (p ∷ ps) f k = if (p.file == f) && (p.page == k)
 abbrev pub put_pages : (ℕ → Option FileInfo) → List FilePage → (ℕ → List ℕ) → (ℕ → ℕ → List ℕ) → ℕ → ℕ → List ℕ
 put_pages files list given before = put_from files given before 0 list
 
-same_page : (p q : FilePage) → q.file ≡ p.file → q.page ≡ p.page → q ≡ p
+pub same_page : (p q : FilePage) → q.file ≡ p.file → q.page ≡ p.page → q ≡ p
 same_page p q file page = ap (λ (f : ℕ). record { file = f; page = q.page }) file ∙ ap (λ (k : ℕ). record { file = p.file; page = k }) page
 
 no_and : (a b : Bool) → (a ≡ false) ⊎ (b ≡ false) → (a && b) ≡ false

@@ -1,8 +1,11 @@
 mod Names
 mod Changed
+mod Possible
 mod Runs
 mod Freed
 mod Growth
+mod Grown
+mod Taken
 mod Lent
 mod Lost
 mod Made

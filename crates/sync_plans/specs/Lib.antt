@@ -5,3 +5,4 @@ pub mod Requests
 pub mod PlanDisk
 pub mod Writing
 pub mod Planned
+pub mod Changing

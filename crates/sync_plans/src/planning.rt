@@ -4,6 +4,8 @@ ghost use Rattle.vm_types.specs.declared.file.FileInfo.{FileInfo};
 ghost use Rattle.file_store.specs.Standing.{IsPageOf};
 ghost use Rattle.stores.specs.Commit.{ArePages};
 ghost use Rattle.stores.specs.Images.{StandsFor, capacity_pages, file_info};
+ghost use Rattle.pool_store.specs.Resume.{IsNoPool};
+ghost use Rattle.sync_plans.specs.Changing.{PlansChanges};
 ghost use Rattle.sync_plans.specs.Pages.{lent_page};
 ghost use Rattle.sync_plans.specs.Planned.{PlansOpening, PlansTidying, PlansCommit};
 ghost use Rattle.sync_plans.specs.Plans.{row, room_of, AreCalls};
@@ -11,11 +13,12 @@ ghost use Rattle.sync_plans.specs.Requests.{IsStore, AreReadOnly, RefusesImage};
 ghost use Rattle.sync_plans.specs.Writing.{Begins, CopiesPlan};
 
 use crate::call::Call;
+use crate::changing::{ChangeRefusal, change};
 use crate::lent_pages::PageBytes;
 use crate::plan_disk::PlanDisk;
 use crate::requests::{Refusal, commit, facts, open, read, tidy};
 use crate::scratch::Scratch;
-use crate::updates::PageUpdates;
+use crate::updates::{FileUpdates, PageUpdates};
 use std::alloc::Global;
 use vm_types::{FileInfo, FilePage};
 
@@ -33,22 +36,23 @@ fn begun<'a>(
 }
 
 /// Gives the caller a plan that was made, and tells how many calls it has. Where there was no room for it that is what he is told, whatever came of it.
-fn told(
+fn told<E: Copy>(
     disk: &PlanDisk<'_>,
-    outcome: Result<(), Refusal>,
+    outcome: Result<(), E>,
+    no_room: E,
     calls: &mut [Call],
     rows: &mut [[u8; 512]],
-) -> Result<usize, Refusal>
+) -> Result<usize, E>
     requires room { disk.now.used ≤ min (length calls.old) (length rows.old) }
-    requires caused { IfErr outcome (λ refusal. refusal ≡ Refusal.Device → 0 < disk.now.failures.number) }
+    requires caused { IfErr outcome (λ refusal. refusal ≡ no_room → 0 < disk.now.failures.number) }
     ensures copies { CopiesPlan disk.now calls.new rows.new }
     ensures made { IfOk result (λ used. (used ≡ disk.now.used) × (outcome ≡ Ok tt)) }
-    ensures full { IfErr result (λ refusal. refusal ≡ Refusal.Device → disk.now.full ≡ true) }
-    ensures refused { IfErr result (λ refusal. (refusal ≡ Refusal.Device) ⊎ (outcome ≡ Err refusal)) }
+    ensures full { IfErr result (λ refusal. refusal ≡ no_room → disk.now.full ≡ true) }
+    ensures refused { IfErr result (λ refusal. (refusal ≡ no_room) ⊎ (outcome ≡ Err refusal)) }
 {
     disk.copy_to(calls, rows);
     if disk.full {
-        return Err(Refusal::Device);
+        return Err(no_room);
     }
     match outcome {
         Ok(()) => Ok(disk.used),
@@ -86,7 +90,7 @@ pub fn plan_commit(
     let PageUpdates { pages, bytes } = updates;
     let disk = begun(image, bytes, scratch, calls, rows);
     let (disk, outcome) = commit(alloc, disk, pages, bytes);
-    told(&disk, outcome, calls, rows)
+    told(&disk, outcome, Refusal::Device, calls, rows)
 }
 
 /// Plans that what a stop has left is carried out: what stands in an open journal of layout 2, or the map of a pool, which is written anew in the place
@@ -108,7 +112,7 @@ pub fn plan_open(
 {
     let disk = begun(image, &[], scratch, calls, rows);
     let (disk, outcome) = open(alloc, disk);
-    told(&disk, outcome, calls, rows)
+    told(&disk, outcome, Refusal::Device, calls, rows)
 }
 
 /// Plans that all pages are brought home that stand in slots of a pool, so that all slots are free, or in an open journal of layout 2.
@@ -129,7 +133,7 @@ pub fn plan_tidy(
 {
     let disk = begun(image, &[], scratch, calls, rows);
     let (disk, outcome) = tidy(alloc, disk);
-    told(&disk, outcome, calls, rows)
+    told(&disk, outcome, Refusal::Device, calls, rows)
 }
 
 /// Reads a page as it is once the image is opened. Nothing is to be carried out.
@@ -179,4 +183,29 @@ pub fn file_facts(
         return Err(Refusal::Device);
     }
     outcome
+}
+
+/// Plans that files change, and pages of theirs, all at once: of a store with a pool. The new pages come first, in the order of the changes, then those of the list. Where
+/// fewer slots are free than it takes, all pages that stand in slots are brought home first, which takes 2 syncs more.
+///
+/// # Errors
+///
+/// `Device` says that the plan has more calls than the shortest of the four lists has places; as many of them are listed then. `NoPool` comes only where the
+/// image is of no store with a pool, `Memory` where there was too little; `Changes`, `Pages` and `Count` say what no commit takes.
+pub fn plan_changes(
+    alloc: Global,
+    image: &[[u8; 512]],
+    scratch: Scratch<'_>,
+    calls: &mut [Call],
+    rows: &mut [[u8; 512]],
+    updates: FileUpdates<'_>,
+) -> Result<usize, ChangeRefusal>
+    ensures changes { IfOk result (λ used. PlansChanges image.now (room_of scratch.entry.calls.now scratch.entry.rows.now calls.old rows.old) updates.entry.asked.changes.now updates.entry.asked.pages.now (lent_page updates.entry.bytes.now) calls.new rows.new used) }
+    ensures no_room { IfErr result (λ refusal. refusal ≡ ChangeRefusal.Device → AreCalls (length image.now) calls.new (room_of scratch.entry.calls.now scratch.entry.rows.now calls.old rows.old)) }
+    ensures none { IfErr result (λ refusal. refusal ≡ ChangeRefusal.NoPool → IsNoPool (length image.now) (row image.now)) }
+{
+    let FileUpdates { asked, bytes } = updates;
+    let disk = begun(image, bytes, scratch, calls, rows);
+    let (disk, outcome) = change(alloc, disk, asked, bytes);
+    told(&disk, outcome, ChangeRefusal::Device, calls, rows)
 }

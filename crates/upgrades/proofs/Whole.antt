@@ -6,7 +6,7 @@ use Rattle.vm_types.specs.declared.file.FileInfo.{FileInfo}
 use Rattle.directories.{proofs.{Places.{get_counted}, Said.{said}}, specs.{Entries.{SaysEntry, entry_said}, Homes.{extents_of, homes_of, home_of_page}, Layouts.{IsExtent, IsGoodLayout, IsHomeIn, entry_in}, declared.entry.{Entry.{Entry}, Extent.{Extent}}}}
 use Rattle.pool_journal.specs.Pools.{pool_home, pool_home_count, pool_standing}
 use Rattle.file_store.{proofs.Pieces.{length-trimmed}, specs.{Layout.{bytes_inside, padded_page, pages_of_length}, Standing.{IsPageOf}}}
-use Rattle.pool_store.{proofs.Held.{entry_moves, stands_home}, specs.{Files.{info_in, info_of, page_at, page_in, page_of}, Format.{extents_made, extents_room, home_part, new_pages, no_extent}, Pools.{AreEntries, IsBadPool, IsBadPool.{Unmarked, OtherKind, TooSmall, NoDirectory}, entry_by, entry_standing, pool_mark}, Resume.{pool_on}}}
+use Rattle.pool_store.{proofs.{Held.{entry_moves, stands_home}, Made.{counted}}, specs.{Files.{info_in, info_of, page_at, page_in, page_of}, Format.{extents_made, extents_room, home_part, new_pages, no_extent}, Pools.{AreEntries, IsBadPool, IsBadPool.{Unmarked, OtherKind, TooSmall, NoDirectory}, entry_by, entry_standing, pool_mark}, Resume.{pool_on}}}
 use Rattle.upgrades.proofs.Counting.{files_before}
 use Rattle.upgrades.specs.NewPool.{HasRoomFor, IsUnmarkedUpgrade, entry_kept, entry_made, first_of, pages_of}
 
@@ -138,7 +138,8 @@ module _ (files : ℕ → Option FileInfo) (pages : ℕ → ℕ → List ℕ) (a
     size = long;
     bounded = λ f e is.
         let from = comes_from f e (sym (listed f) ∙ is) in let bound = are.bounded f from.info from.at in let size = ap (λ (x : Entry). x.length) from.is in
-        (bound.0, omega (arith, bound.1, size));
+        let count = ap (λ (x : Entry). x.extent_count) from.is in let one = counted (first_of files f) (pages_of_length from.info.length) in
+        (bound.0, omega (arith, bound.1, size), omega (arith, count, one));
     good = good_entries n fit;
   }
 

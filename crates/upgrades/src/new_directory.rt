@@ -2,14 +2,14 @@
 ghost use Rattle.std.specs.Prelude.{◌≡◌, ◌≤◌, ◌<◌, ◌+◌, IfSome};
 ghost use Rattle.pool_journal.specs.Sizes.{HasPool};
 ghost use Rattle.sync_journal.specs.Steps.{WritesInto};
-ghost use Rattle.pool_store.specs.Format.{IsHomeSector, extents_room, new_pages};
+ghost use Rattle.pool_store.specs.Format.{IsHomeSector, new_pages};
 ghost use Rattle.upgrades.specs.NewPool.{files_in, entry_kept, entry_made, IsDirectoryPage, HoldsDirectory};
 
 use crate::places::{first_of, pages_of};
-use directories::{EXTENTS, Entry, Extent, PAGE_ENTRIES, write_entry};
+use directories::{Entry, PAGE_ENTRIES, write_entry};
 use disk_model::{DiskFault, SectorDisk};
 use pool_journal::PoolSizes;
-use pool_store::DIRECTORY_PAGES;
+use pool_store::{DIRECTORY_PAGES, extents_of};
 use sync_journal::write_page;
 use vm_types::{FILES, FileInfo};
 
@@ -66,16 +66,4 @@ fn entry_of(info: FileInfo, first: u32) -> Entry
         extent_count: count.min(1),
         extents: extents_of(first, count),
     }
-}
-
-/// One extent of so many homes, or none where they are none, and behind it none.
-fn extents_of(first: u32, count: u32) -> [Extent; EXTENTS]
-    ensures { result ≡ extents_room first count }
-{
-    let mut extents = [Extent { first: 0, count: 0 }; EXTENTS];
-    if count == 0 {
-        return extents;
-    }
-    extents[0] = Extent { first, count };
-    extents
 }

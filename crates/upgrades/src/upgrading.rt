@@ -2,8 +2,8 @@
 ghost use Rattle.std.specs.Prelude.{◌≡◌, ◌<◌, OnOk, IsErrOf};
 ghost use Rattle.disk_model.specs.{Moments.{Nothing}, Stop.{NamesOnce}};
 ghost use Rattle.directories.specs.Kinds.{IsMapSize};
-ghost use Rattle.sync_journal.specs.{Runs.{RunsOnDevice}, Steps.{SyncsInto}};
-ghost use Rattle.file_store.specs.{Format.{IsMarkSector}, Layout.{IsMark, pool_mark}, Upgraded.{HasCheckCauses}};
+ghost use Rattle.sync_journal.specs.{Runs.{RunsOnDevice}};
+ghost use Rattle.file_store.specs.{Format.{IsMarkSector}, Layout.{IsMark}, Upgraded.{HasCheckCauses}};
 ghost use Rattle.upgrades.specs.NewPool.{files_in, HasRoomFor, IsTooSmall};
 ghost use Rattle.upgrades.specs.Upgraded.{UpgradesToPool};
 
@@ -11,9 +11,10 @@ use crate::finding::find;
 use crate::old_files::list_files;
 use crate::places::has_room;
 use crate::writing::write_unmarked;
-use disk_model::{DiskFault, SECTOR_BYTES, SectorDisk};
-use file_store::{MARK_SECTOR, UpgradeFault, is_any_mark, pool_mark};
+use disk_model::{SECTOR_BYTES, SectorDisk};
+use file_store::{MARK_SECTOR, UpgradeFault, is_any_mark};
 use pool_journal::PoolSizes;
+use pool_store::write_mark;
 use vm_types::{FILES, FileInfo};
 
 /// Makes a store of layout 4 on `new`, with maps of `blocks` blocks, 1 to 2,048, and a directory of 4 pages, that stands for what the store of layout 2
@@ -68,13 +69,4 @@ fn check_new<E: SectorDisk>(
         return Err(UpgradeFault::Formatted);
     }
     Ok(())
-}
-
-/// Writes the mark, and syncs.
-fn write_mark<E: SectorDisk>(new: &mut E) -> Result<(), DiskFault>
-    requires { 0 < E.sector_count new.old }
-    ensures { SyncsInto E.SectorDisk IsMarkSector IsMarkSector (E.content new.new 0 ≡ pool_mark) new.old new.new result }
-{
-    new.write(MARK_SECTOR, pool_mark())?;
-    new.sync()
 }

@@ -1,10 +1,8 @@
 //! All of the new store but its mark.
 ghost use Rattle.std.specs.Prelude.{◌≤◌, ◌<◌, OnOk};
 ghost use Rattle.vm_types.specs.Limits.{file_limit};
-ghost use Rattle.directories.specs.Kinds.{IsKind, IsMapSize};
 ghost use Rattle.pool_journal.specs.Sizes.{HasPool};
-ghost use Rattle.sync_journal.specs.Steps.{SyncsInto, WritesInto};
-ghost use Rattle.file_store.specs.Format.{IsKindSector};
+ghost use Rattle.sync_journal.specs.Steps.{WritesInto};
 ghost use Rattle.pool_store.specs.Format.{IsInnerSector, IsUnmarkedPoolSector, new_pages};
 ghost use Rattle.upgrades.specs.Copying.{CopiesOld, IsCopyable, WritesKindLast};
 ghost use Rattle.upgrades.specs.NewPool.{files_in, pages_before, HasTables, IsInnerUpgrade, IsTableSector};
@@ -12,11 +10,10 @@ ghost use Rattle.upgrades.specs.Old.{standing_page, IsOldPage};
 
 use crate::copying::copy_files;
 use crate::new_directory::write_directory;
-use directories::Kind;
 use disk_model::{DiskFault, SectorDisk};
-use file_store::{KIND_SECTOR, OldStore, UpgradeFault};
+use file_store::{OldStore, UpgradeFault};
 use pool_journal::{PoolJournal, PoolSizes};
-use pool_store::DIRECTORY_PAGES;
+use pool_store::write_kind;
 use vm_types::{FILES, FileInfo};
 
 /// Writes all but the mark, the kind last, and syncs.
@@ -69,18 +66,4 @@ fn write_tables<E: SectorDisk>(
 {
     PoolJournal::clear(new, sizes)?;
     write_directory(new, sizes, files)
-}
-
-/// Writes the kind, and syncs.
-fn write_kind<E: SectorDisk>(new: &mut E, blocks: u32) -> Result<(), DiskFault>
-    requires maps { IsMapSize blocks }
-    requires room { 1 < E.sector_count new.old }
-    ensures { SyncsInto E.SectorDisk IsKindSector IsKindSector (IsKind blocks new_pages (E.content new.new 1)) new.old new.new result }
-{
-    let kind = Kind {
-        map_blocks: blocks,
-        directory_pages: DIRECTORY_PAGES,
-    };
-    new.write(KIND_SECTOR, &kind.to_sector())?;
-    new.sync()
 }

@@ -6,6 +6,6 @@ use Rattle.growth.proofs.widening.find_room.Goals as goal
 
 pub returns-in-None : goal.returns-in-None
 returns-in-None c =
-    let large : c.max-wanted.result ≡ wanted c.args.entry.now c.args.missing = c.max-wanted.ensures ∙ ap (λ n. max n c.args.missing) (c.max.ensures ∙ ap (λ n. max n 64) c.file_homes.ensures) in
+    let large : c.max-wanted.result ≡ wanted c.args.entry.now c.args.missing = c.max-wanted.ensures ∙ ap (λ n. max n c.args.missing) (c.max.ensures ∙ ap (λ n. max n 64) c.homes.ensures) in
     room_missing c.args.before.now c.args.changes.now c.args.entry.now c.args.room c.args.missing c.find_run-in-None.result
     (subst (HasNoRun c.args.before.now c.args.changes.now c.args.entry.now c.args.room) large c.in-None.ensures) c.find_run-in-None.ensures

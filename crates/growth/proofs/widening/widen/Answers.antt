@@ -8,7 +8,7 @@ use Rattle.growth.proofs.widening.widen.Goals as goal
 pub returns-in-Some : goal.returns-in-Some
 returns-in-Some c =
     let e = c.args.entry.now in
-    let homes = c.file_homes-homes.ensures in
+    let homes = c.homes-homes.ensures in
     let long : length c.extents.result.now ≡ length (extents_of e) = ap (λ (xs : List Extent). length xs) c.extents.ensures.extents in
     let lacks : file_homes e < c.args.count = omega (arith, homes) in
     let few : length (extents_of e) < 30 = omega (arith, long) in
@@ -17,5 +17,5 @@ returns-in-Some c =
 
 pub returns-in-None : goal.returns-in-None
 returns-in-None c =
-    let homes = c.file_homes-homes.ensures in
+    let homes = c.homes-homes.ensures in
     ((λ has. omega (arith, has, homes)), inr (subst (λ n. HasNoRun c.args.before.now c.args.changes.now c.args.entry.now c.args.room (c.args.count - n)) homes c.in-None.ensures))

@@ -1,8 +1,7 @@
 use Rattle.std.proofs.Common.{◌≡◌, ◌+◌, ◌*◌, ◌∙◌, ℕ, Bool, true, false, ap, arith, length, get_or, subst}
 use Rattle.std.proofs.lemmas.List.{with_items_is}
 use Rattle.std.specs.Vec.{with_items}
-use Rattle.pool_journal.specs.{Giving.{number_but, live_among}, Maps.{entries_of, IsMapOf}}
-use Rattle.pool_journal.specs.declared.map.SlotMap.{SlotMap}
+use Rattle.pool_journal.{proofs.Runs.{whole_body}, specs.{Giving.{number_but, live_among}, Maps.{entries_of, IsMapOf}, declared.map.SlotMap.{SlotMap}}}
 use Rattle.pool_journal.proofs.forgetting.forget.Goals as goal
 
 pub returns : goal.returns
@@ -28,8 +27,10 @@ returns c = record {
     second = with_items_is was.second c.forget_in-2.new.numbers (c.forget_in-2.ensures.size ∙ c.deref_mut-2.ensures.len)
 
     forgotten : (body : Bool) (r : ℕ) → entries_of new body r ≡ number_but c.args.homes.now (entries_of was body r)
-    forgotten false r = ap (λ xs. get_or xs r 0) first ∙ c.forget_in.ensures.forgotten r ∙ ap (λ xs. number_but c.args.homes.now (get_or xs r 0)) c.deref_mut.ensures.value
-    forgotten true r = ap (λ xs. get_or xs r 0) second ∙ c.forget_in-2.ensures.forgotten r ∙ ap (λ xs. number_but c.args.homes.now (get_or xs r 0)) c.deref_mut-2.ensures.value
+    forgotten false r = ap (λ xs. get_or xs r 0) first ∙ whole_body c.args.homes.now c.deref_mut.result.now c.forget_in.new.numbers c.forget_in.result c.forget_in.ensures r
+        ∙ ap (λ xs. number_but c.args.homes.now (get_or xs r 0)) c.deref_mut.ensures.value
+    forgotten true r = ap (λ xs. get_or xs r 0) second ∙ whole_body c.args.homes.now c.deref_mut-2.result.now c.forget_in-2.new.numbers c.forget_in-2.result c.forget_in-2.ensures r
+        ∙ ap (λ xs. number_but c.args.homes.now (get_or xs r 0)) c.deref_mut-2.ensures.value
 
     first_live : (blocks : ℕ) → IsMapOf blocks was → c.forget_in.result + live_among (entries_of new false) (504 * blocks) ≡ live_among (entries_of was false) (504 * blocks)
     first_live blocks is =

@@ -1,34 +1,15 @@
-use Rattle.std.proofs.Common.{◌≡◌, ◌≢◌, ◌<◌, ◌∙◌, ℕ, length, get_or, sym, ap, ⊎_elim, inl, inr, arith, slice_set}
-use Rattle.std.proofs.lemmas.{Bool.{cases_eq}, List.{get_or-set_same, get_or-set_other, length-set}}
-use Rattle.std.specs.Prelude.{nat_lt}
-use Rattle.pool_journal.proofs.Taken.{but_either, byte_most, live_less}
-use Rattle.pool_journal.specs.Giving.{number_but}
-use mir.Val.{bool_byte}
+use Rattle.std.proofs.Common.{◌+◌, arith, refl, slice_set}
+use Rattle.pool_journal.proofs.Runs.{joined, none_left, one_left}
 use Rattle.pool_journal.proofs.forgetting.forget_each.Goals as goal
 
-pub loop-place-preserved : goal.loop-place-preserved
-loop-place-preserved c =
-    let inv = c.loop-place.invariant in
+pub loop-i-init : goal.loop-i-init
+loop-i-init c = none_left c.args.homes.now c.args.from c.args.numbers.now
+
+pub loop-i-preserved : goal.loop-i-preserved
+loop-i-preserved c =
     let homes = c.args.homes.now in
-    let xs = c.loop-place.numbers in
-    let j = c.loop-place.place in
-    let left = c.but-left.result in
-    let inside : j < length c.args.numbers.now = omega (arith, c.loop-place-test.true, c.requires.room) in
-    let here : get_or (slice_set xs j left) j 0 ≡ left = get_or-set_same xs j left 0 (omega (arith, inside, inv.size)) in
-    let other : (r : ℕ) → r ≢ j → get_or (slice_set xs j left) r 0 ≡ get_or xs r 0 = λ r differs. get_or-set_other xs j r left 0 differs in
-    let less = live_less (λ r. get_or xs r 0) (λ r. get_or (slice_set xs j left) r 0) j (length c.args.numbers.now) inside other
-    (⊎_elim (λ none. inl (here ∙ c.but-left.ensures ∙ none)) (λ same. inr (here ∙ c.but-left.ensures ∙ same)) (but_either homes (get_or xs j 0))) in
-    let one = c.from-gone.ensures ∙ ap (λ k. bool_byte (nat_lt k (get_or xs j 0))) (sym here) in
-    record {
-      taken = λ r from below. ⊎_elim
-          (λ same. ap (λ k. get_or (slice_set xs j left) k 0) same ∙ here ∙ c.but-left.ensures ∙ ap (number_but homes) (inv.left j (inr (omega arith)))
-          ∙ ap (λ k. number_but homes (get_or c.args.numbers.now k 0)) (sym same))
-          (λ differs. other r differs ∙ inv.taken r from (omega (arith, below, differs)))
-          (cases_eq r j);
-      left = λ r out. other r (λ same. ⊎_elim (λ low. omega (arith, same, low, inv.after)) (λ high. omega (arith, same, high)) out)
-          ∙ inv.left r (⊎_elim (λ low. inl low) (λ high. inr (omega (arith, high))) out);
-      size = length-set xs j left ∙ inv.size;
-      counted = omega (arith, inv.counted, less, one);
-      few = (let most = byte_most (nat_lt left (get_or xs j 0)) in omega (arith, inv.few, c.from-gone.ensures, most));
-      after = omega (arith, inv.after);
-    }
+    let i = c.loop-i.i in
+    let at = c.args.from + i in
+    let so_far = c.loop-i.invariant in
+    joined homes c.args.from i at 1 (i + 1) c.args.numbers.now c.loop-i.numbers (slice_set c.loop-i.numbers at c.but-left.result) c.loop-i.gone c.from-gone.result refl refl so_far
+    (one_left homes at c.but-left.result c.from-gone.result c.loop-i.numbers (omega (arith, c.loop-i-test.true, c.requires.room, so_far.size)) c.but-left.ensures c.from-gone.ensures)

@@ -1,9 +1,11 @@
-use Rattle.std.proofs.Common.{◌∙◌, is_some, sym, ap}
-use Rattle.pool_journal.proofs.Taken.{ranked}
+use Rattle.std.proofs.Common.{◌∙◌}
+use Rattle.pool_journal.proofs.{Marks.{exact}, Taken.{ranked}}
 use Rattle.pool_journal.proofs.forgetting.is_among.Goals as goal
 
-pub returns-then-is_between : goal.returns-then-is_between
-returns-then-is_between c = c.is_ok.ensures.value ∙ ranked c.args.homes.now c.args.home c.binary_search.result c.requires c.binary_search.ensures.position
+pub returns-then-homes-lt-MARKS : goal.returns-then-homes-lt-MARKS
+returns-then-homes-lt-MARKS c =
+    let between = c.is_between.ensures.inside c.if-not-is_between.false in
+    c.has.ensures ∙ exact c.args.homes.now c.args.sieve.now c.args.home c.requires.rising c.requires.sieve between.1 between.2 c.if-homes-lt-MARKS.true
 
-pub returns-else-is_between : goal.returns-else-is_between
-returns-else-is_between c = sym (ap is_some (c.is_between.ensures c.if-is_between.false))
+pub returns-else-homes-lt-MARKS : goal.returns-else-homes-lt-MARKS
+returns-else-homes-lt-MARKS c = c.is_ok.ensures.value ∙ ranked c.args.homes.now c.args.home c.binary_search.result c.requires.rising c.binary_search.ensures.position

@@ -1,7 +1,7 @@
-use Rattle.std.proofs.Common.{ℕ, ◌≡◌, ◌<◌, ◌^◌, Some}
+use Rattle.std.proofs.Common.{ℕ, ◌≡◌, ◌<◌, ◌≤◌, ◌^◌, Some}
 use Rattle.directories.specs.{Layouts.{entry_in}, declared.entry.Entry.{Entry}}
 use Rattle.pool_store.proofs.reading.are_bounded.Given as goal
 
 -- the files before this one are bounded
 abbrev pub invariant-loop-file : goal.invariant-loop-file
-invariant-loop-file l = (f : ℕ) (e : Entry) → f < l.file → entry_in l.entries f ≡ Some e → (f < 64) × (e.length < 2 ^ 32)
+invariant-loop-file l = (f : ℕ) (e : Entry) → f < l.file → entry_in l.entries f ≡ Some e → (f < 64) × (e.length < 2 ^ 32) × (e.extent_count ≤ 30)

@@ -100,10 +100,10 @@ returns-in_err-write_unmarked g c =
 
 -- where the mark was asked to be written, whatever is told of it
 marked_upgrade : {T : Type 0} (g : Over) (c : After-write_mark g) (r : Result T UpgradeFault) → (IsErrOf r OldLayout ⊎ (IsErrOf r OldJournal ⊎ (IsErrOf r NewSmall ⊎ IsErrOf r Formatted)) → ⊥)
-    → (g.E.SectorDisk.keeps_model c.write_mark.new.new → OnOk r (g.E.SectorDisk.content c.write_mark.new.new 0 ≡ pool_mark))
-    → (g.E.SectorDisk.keeps_model c.write_mark.new.new → OnOk r ((k : ℕ) → g.E.SectorDisk.unsynced c.write_mark.new.new k → ⊥))
-    → HasUpgradeCauses (g.D.SectorDisk.failures c.args.old.now) (g.D.SectorDisk.failures c.write_unmarked.new.old) (g.E.SectorDisk.failures c.args.new.now) (g.E.SectorDisk.failures c.write_mark.new.new) r
-    → UpgradesToPool g.D.SectorDisk g.E.SectorDisk c.args.blocks c.args.old.now c.write_unmarked.new.old c.args.new.now c.write_mark.new.new r
+    → (g.E.SectorDisk.keeps_model c.write_mark.new.disk → OnOk r (g.E.SectorDisk.content c.write_mark.new.disk 0 ≡ pool_mark))
+    → (g.E.SectorDisk.keeps_model c.write_mark.new.disk → OnOk r ((k : ℕ) → g.E.SectorDisk.unsynced c.write_mark.new.disk k → ⊥))
+    → HasUpgradeCauses (g.D.SectorDisk.failures c.args.old.now) (g.D.SectorDisk.failures c.write_unmarked.new.old) (g.E.SectorDisk.failures c.args.new.now) (g.E.SectorDisk.failures c.write_mark.new.disk) r
+    → UpgradesToPool g.D.SectorDisk g.E.SectorDisk c.args.blocks c.args.old.now c.write_unmarked.new.old c.args.new.now c.write_mark.new.disk r
 marked_upgrade g c r none marked synced causes =
     let d = g.D.SectorDisk in let n = g.E.SectorDisk in let old = c.args.old.now in let found = c.find.new.disk in let read = c.write_unmarked.new.old in let new = c.args.new.now in let mid = c.check_new.new.new in
     let m = c.args.blocks in let image = d.content old in let os = d.sector_count old in let sectors = n.sector_count new in let find = c.find.ensures in let store = c.in_ok-store.ensures in
@@ -121,7 +121,7 @@ marked_upgrade g c r none marked synced causes =
     let inside : d.keeps_model read → (s : ℕ) → Written s → IsUpgradeSector m image s = λ k. sector_of b m fs image blocks (same (kept k)) in
     let writes : n.keeps_model made → Touches n (IsFrom 1) mid made = λ k'. wider n Written (IsFrom 1) mid made (unmarked_from b pages) (w.copies.run.touches k') in
     let only : n.keeps_model made → (i : Image) → n.left_since new (n.moment new) i → MayLeave (n.content new) (n.unsynced new) i = λ k' i left. g.met.E.SectorDisk.only_now new i (check.run.kept (w.copies.run.kept k')) left in
-    let mark = c.write_mark.ensures in let end = c.write_mark.new.new in
+    let mark = c.write_mark.ensures in let end = c.write_mark.new.disk in
     let done : d.keeps_model read → n.keeps_model made → WritesKindLast {T = Unit {0}} {E = UpgradeFault} n m Q mid made (Ok c.in_ok-write_unmarked.field-0) = λ k k'.
     last_of n b m fs (file_info image) (d.content found) image mid made (Ok c.in_ok-write_unmarked.field-0) blocks (same (kept k)) (content_is d old found (find.looks.run.touches (kept k))) (c.in_ok-write_unmarked.ensures.last k k') in
     let all : d.keeps_model read → n.keeps_model made → IsUnmarkedUpgrade m (file_info image) (standing_page image) (n.content made) = λ k k'.
@@ -168,7 +168,7 @@ marked_upgrade g c r none marked synced causes =
 pub returns-in_err-write_mark : goal.returns-in_err-write_mark
 returns-in_err-write_mark g c =
     let done = c.in_ok-write_unmarked.ensures.copies.causes in let failed = c.in_err-write_mark.ensures.failed refl in let other = when_marking in
-    subst (λ r. UpgradesToPool g.D.SectorDisk g.E.SectorDisk c.args.blocks c.args.old.now c.write_unmarked.new.old c.args.new.now c.write_mark.new.new r)
+    subst (λ r. UpgradesToPool g.D.SectorDisk g.E.SectorDisk c.args.blocks c.args.old.now c.write_unmarked.new.old c.args.new.now c.write_mark.new.disk r)
     (sym (is_this c.from_residual-in_err-write_mark.result NewDevice c.from_residual-in_err-write_mark.ensures.1))
     (marked_upgrade g (goal.at.returns-in_err-write_mark g c).After-write_mark (Err NewDevice)
     (⊎_elim (λ is. other.0 (same_Err _ _ is)) (⊎_elim (λ is. other.1.0 (same_Err _ _ is)) (⊎_elim (λ is. other.1.1.0 (same_Err _ _ is)) (λ is. other.1.1.1 (same_Err _ _ is)))))

@@ -56,7 +56,7 @@ returns-in_err-write_kind-clause-copies g c =
     let i = c.write_inner.ensures.copies in let s = c.sync.ensures in let read = c.write_inner.new.old in let new = c.args.new.now in let made = c.write_inner.new.new in let mid = c.sync.new.self in
     let calm = c.in_ok-write_inner.ensures.copies.causes.new_still (ok_is_no_err _ _) in let old_calm = c.in_ok-write_inner.ensures.copies.causes.old_still (ok_is_no_err _ _) in
     let synced = makes_synced n All new made mid (makes_of n Inner All new made (λ k at. inr at) i.run) s.size s.kept s.cause.later s.asks s.same s.unsynced s.time in
-    let w = c.write_kind.ensures in let last = c.write_kind.new.new in
+    let w = c.write_kind.ensures in let last = c.write_kind.new.disk in
     let run = makes_more n All new mid last synced (makes_of n IsKindSector All mid last (λ k at. inl at) (made_once n IsKindSector mid last w.run w.once)) in
     let failed = c.in_err-write_kind.ensures.failed refl in let before = c.in_ok-sync.ensures.cause.calm in
     record {
@@ -71,7 +71,7 @@ returns-clause-copies g c =
     let i = c.write_inner.ensures.copies in let s = c.sync.ensures in let read = c.write_inner.new.old in let new = c.args.new.now in let made = c.write_inner.new.new in let mid = c.sync.new.self in
     let calm = c.in_ok-write_inner.ensures.copies.causes.new_still (ok_is_no_err _ _) in let old_calm = c.in_ok-write_inner.ensures.copies.causes.old_still (ok_is_no_err _ _) in
     let synced = makes_synced n All new made mid (makes_of n Inner All new made (λ k at. inr at) i.run) s.size s.kept s.cause.later s.asks s.same s.unsynced s.time in
-    let w = c.write_kind.ensures in let last = c.write_kind.new.new in
+    let w = c.write_kind.ensures in let last = c.write_kind.new.disk in
     let run = makes_more n All new mid last synced (makes_of n IsKindSector All mid last (λ k at. inl at) (made_once n IsKindSector mid last w.run w.once)) in
     record {
       copies = copies_done d n Read All old read new last i.old_run i.once_old run _ old_calm (c.in_ok-write_kind.ensures.calm ∙ c.in_ok-sync.ensures.cause.calm ∙ calm);
@@ -83,7 +83,7 @@ returns-in_err-write_kind-clause-last g c = λ keeps_old keeps.
     let n = g.E.SectorDisk in let m = c.args.sizes.blocks in let pages = pages_before (files_in c.args.files.now) 64 in let Inner = IsInnerSector m pages in
     let Q = IsInnerUpgrade m (files_in c.args.files.now) (standing_page (g.D.SectorDisk.content c.args.old.now)) in
     let s = c.sync.ensures in let w = c.write_kind.ensures in let k1 = w.kept keeps in let new = c.args.new.now in
-    let behind : KindBehind n (IsFrom 8) Q new c.write_kind.new.new = record {
+    let behind : KindBehind n (IsFrom 8) Q new c.write_kind.new.disk = record {
       tables = c.sync.new.self;
       before = wider n Inner (IsFrom 8) new c.sync.new.self (inner_from m pages)
           ((makes_synced n Inner new c.write_inner.new.new c.sync.new.self c.write_inner.ensures.copies.run s.size s.kept s.cause.later s.asks s.same s.unsynced s.time).touches k1);
@@ -103,7 +103,7 @@ returns-clause-last g c = λ keeps_old keeps.
     let n = g.E.SectorDisk in let m = c.args.sizes.blocks in let pages = pages_before (files_in c.args.files.now) 64 in let Inner = IsInnerSector m pages in
     let Q = IsInnerUpgrade m (files_in c.args.files.now) (standing_page (g.D.SectorDisk.content c.args.old.now)) in
     let s = c.sync.ensures in let w = c.write_kind.ensures in let k1 = w.kept keeps in let new = c.args.new.now in
-    let behind : KindBehind n (IsFrom 8) Q new c.write_kind.new.new = record {
+    let behind : KindBehind n (IsFrom 8) Q new c.write_kind.new.disk = record {
       tables = c.sync.new.self;
       before = wider n Inner (IsFrom 8) new c.sync.new.self (inner_from m pages)
           ((makes_synced n Inner new c.write_inner.new.new c.sync.new.self c.write_inner.ensures.copies.run s.size s.kept s.cause.later s.asks s.same s.unsynced s.time).touches k1);

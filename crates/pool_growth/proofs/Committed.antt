@@ -1,0 +1,375 @@
+-- A commit of changes: new pages where they are to stand, and then what goes into slots.
+use Rattle.std.proofs.Common.{◌≡◌, ◌⊎◌, ◌≤◌, ◌<◌, ◌+◌, ◌-◌, ◌*◌, ◌++◌, ◌∷◌, [], ℕ, zero, suc, Bool, true, false, List, Option, Result, Ok, Err, OnOk, IsErr, IsErrAnd, length, map, take, get_or, vec_capacity, refl, sym, ap, subst, ◌∙◌, ⊎_elim, inl, inr, arith, if◌then◌else◌}
+use Rattle.std.proofs.lemmas.{List.{length-append}, Option.{slice_get_within}, Result.{on_ok_weaker}}
+use Rattle.vm_types.specs.declared.{file.FileInfo.{FileInfo}, file.FilePage.{FilePage}}
+use Rattle.disk_model.{proofs.Moments.{asks_once, asks_then, asks_wider, joined, then, weaker, wider}, specs.{Moments.{AsksOnly, LeavesNow, LeavesOnly, Touches}, Stop.{Image}, declared.sector_disk.SectorDisk.{Ghosts}}}
+use Rattle.directories.specs.{Kinds.{IsDirectorySize, IsKind}, declared.entry.Entry.{Entry}}
+use Rattle.file_store.{proofs.Reading.{has_content}, specs.Asking.{asks_more}}
+use Rattle.growth.specs.declared.changes.Change.{Change}
+use Rattle.pool_growth.proofs.{After.{said_then, stands_after, stands_before}, Directory.{are_changed}, Slotted.{both_rise, each_of_both, late_staged}}
+use Rattle.pool_growth.specs.{Asked.{changed_pages, entries_then, is_changed, AreFileChanges, AreKeptPages}, Commit.{ChangesInBlocks, CommitsChanges, IsChangeAsked, IsChangedSector, StandsForOneOf}, Files.{added_count, files_after, ChangesFiles}, Front.{AreChangedPages}, Late.{late_homes, late_page}, declared.front.ChangeRoom.{ChangeRoom}}
+use Rattle.pool_growth.specs.Putting.{IsNewHome, IsNewSector, LeavesOtherHomes, PutsNewPages}
+use Rattle.pool_journal.{proofs.Free.{free_most}, specs.{Committing.{CommitsInPool, IsPoolStaged}, Gates.{IsPoolGate}, Giving.{AreRising}, Journal.{free_count, IsPoolJournal}, Maps.{entries_of}, Pools.{pool, pool_gate, pool_home, pool_home_count, pool_standing, IsLoose, IsPoolRest}, Sizes.{HasPool}}}
+use Rattle.pool_journal.specs.declared.{pool.PoolJournal.{PoolJournal}, sizes.PoolSizes.{PoolSizes}}
+use Rattle.pool_store.{proofs.{Ordered.{ArePlaced, are_ordered, home_behind}, Ready.{in_blocks_weaker}}, specs.{Files.{StandsFor}, Places.{index_at, PutsInOrder}, Pools.{AreEntries, AreSaid, files_in_pool, pool_mark}, Store.{HasCommitRoom, IsDirectoryOn, IsReadyPool, info_by}}}
+use Rattle.pool_store.specs.declared.{directory.Directory.{Directory}, room.{CommitRoom.{CommitRoom}, Place.{Place}}, store.PoolStore.{PoolStore}}
+use Rattle.sync_journal.proofs.{Causes.{told_on}, Shared.{blocks_weaker}}
+use Rattle.sync_journal.specs.{Blocks.{LeavesInBlocks}, Commit.{changed}, Committing.{HomesStandOr}, Layouts.{HomesStandAs, IsKept, StandsForPages}, Source.{Asks, HasCauses}}
+use Rattle.sync_journal.specs.declared.{faults.CommitFault.{CommitFault}, source.PageSource.{Ghosts as SourceGhosts}}
+
+-- the changed pages of a directory rise
+changed_rise : (changes : List Change) (n : ℕ) → AreRising (changed_pages changes n)
+unfolding changed_pages
+changed_rise changes zero = λ i j less none. absurd (omega (arith, none))
+changed_rise changes (suc n) = by_case (changed_rise changes n) (is_changed changes n)
+  where
+    low : (j : ℕ) → j < length (changed_pages changes n) → get_or (changed_pages changes n) j 0 < n
+    low j below = (are_changed changes n j below).0
+
+    last_at : (j : ℕ) → j < length (n ∷ []) → n ≤ get_or (n ∷ []) j 0
+    last_at j below = let first : j ≡ 0 = omega (arith, below) in let at : get_or (n ∷ []) j 0 ≡ n = ap (λ k. get_or (n ∷ []) k 0) first in omega (arith, at)
+
+    by_case : AreRising (changed_pages changes n) → (b : Bool) → AreRising (changed_pages changes n ++ (if b then n ∷ [] else []))
+    by_case rises true = both_rise (changed_pages changes n) (n ∷ []) n low last_at rises (λ i j less below. absurd (omega (arith, less, below)))
+    by_case rises false = both_rise (changed_pages changes n) [] n low (λ j none. absurd (omega (arith, none))) rises (λ i j less none. absurd (omega (arith, none)))
+
+-- nothing is asked of a fault
+pub at_fault : (P : Type 0) (result : Result (Unit {0}) CommitFault) → IsErr result → OnOk result P
+at_fault P (Ok done) is = let none : false ≡ true = is in cc
+at_fault P (Err fault) is = tt
+
+-- a fault is told as it came
+pub told_as : (fault : CommitFault) (result : Result (Unit {0}) CommitFault) → IsErrAnd result (λ e. e ≡ fault) → ◌≡◌ {A = Result (Unit {0}) CommitFault} (Err fault) result
+told_as fault (Ok done) is = absurd is
+told_as fault (Err e) is = ap Err (sym is)
+
+-- what goes into slots has them
+pub late_few : {D : Type 0} (store : PoolStore D) (changes : List Change) (list : List FilePage) → AreKeptPages store changes list
+    → length list + length (changed_pages changes store.directory.pages) ≤ 1008 * store.journal.sizes.blocks
+late_few store changes list kept = let most = free_most store.journal.sizes.blocks (entries_of store.journal.map) in let few = kept.few in omega (arith, most, few)
+
+-- there is room where there is as much as there was
+pub room_stays : {D : Type 0} (store : PoolStore D) (room : CommitRoom) → HasCommitRoom store.journal.sizes.blocks store.room
+    → (vec_capacity store.room.places ≤ vec_capacity room.places) × (vec_capacity store.room.homes ≤ vec_capacity room.homes) → HasCommitRoom store.journal.sizes.blocks room
+room_stays store room has more = (omega (arith, has.0, more.0), omega (arith, has.1, more.1))
+
+-- What a commit lists for slots:
+pub record AreLate (directory : Directory) (changes : List Change) (list : List FilePage) (places : List Place) (front : List (List ℕ)) (homes : List ℕ) : Type 0 where
+  -- pages of files, by their homes,
+  pub placed : ArePlaced directory list places (map (λ place. place.home) places)
+  -- the changed pages of the directory,
+  pub fronts : AreChangedPages directory changes front
+  -- and the homes of both.
+  pub homes_are : homes ≡ late_homes directory changes places
+
+-- places in order, and the lists of a room
+pub are_late : {D : Type 0} (store : PoolStore D) (changes : List Change) (list : List FilePage) → IsDirectoryOn store.journal.sizes.homes store.directory → AreKeptPages store changes list
+    → (firsts : List Place) (numbers : List ℕ) → PutsInOrder store.directory list firsts numbers → (places : List Place) → places ≡ firsts
+    → (listed room : ChangeRoom) → listed.homes.items ≡ changed_pages changes store.directory.pages → AreChangedPages store.directory changes listed.pages.items
+    → room.homes.items ≡ listed.homes.items ++ map (λ place. place.home) (take (length list) places) → room.pages ≡ listed.pages
+    → (front : List (List ℕ)) (homes : List ℕ) → front ≡ room.pages.items → homes ≡ room.homes.items → AreLate store.directory changes list (take (length list) places) front homes
+are_late store changes list on kept firsts numbers order places is listed room changed pages all same front homes front_is homes_are =
+    let directory = store.directory in
+    record {
+      placed = subst (λ (xs : List Place). ArePlaced directory list (take (length list) xs) (map (λ (place : Place). place.home) (take (length list) xs))) (sym is)
+          (subst (λ (hs : List ℕ). ArePlaced directory list (take (length list) firsts) hs) order.listed
+          (are_ordered store.journal.sizes.homes directory on list kept.before kept.distinct firsts numbers order firsts numbers refl refl));
+      fronts = subst (λ (pages : List (List ℕ)). AreChangedPages directory changes pages) (sym (front_is ∙ ap (λ pages. pages.items) same)) pages;
+      homes_are = homes_are ∙ all ∙ ap (λ (own : List ℕ). own ++ map (λ (place : Place). place.home) (take (length list) places)) changed;
+    }
+
+module _ (n : ℕ) (directory : Directory) (on : IsDirectoryOn n directory) (changes : List Change) (list : List FilePage)
+    (places : List Place) (front : List (List ℕ)) (homes : List ℕ) (late : AreLate directory changes list places front homes) where
+  abbrev own : List ℕ
+  own = changed_pages changes directory.pages
+
+  abbrev others : List ℕ
+  others = map (λ place. place.home) places
+
+  behind : (j : ℕ) → j < length others → (directory.pages ≤ get_or others j 0) × (get_or others j 0 < n)
+  behind j below = let each = late.placed.each j below in home_behind n directory on each.0 (get_or others j 0) each.2
+
+  -- The homes rise,
+  pub late_rise : AreRising homes
+  late_rise = subst (λ (xs : List ℕ). AreRising xs) (sym late.homes_are)
+      (both_rise own others directory.pages (λ j below. (are_changed changes directory.pages j below).0) (λ j below. (behind j below).0) (changed_rise changes directory.pages) late.placed.rising)
+
+  -- the device has them,
+  pub late_inside : (j : ℕ) → j < length homes → get_or homes j 0 < n
+  late_inside = subst (λ (xs : List ℕ). (j : ℕ) → j < length xs → get_or xs j 0 < n) (sym late.homes_are) (each_of_both own others (λ h. h < n)
+      (λ j below. (let less = (are_changed changes directory.pages j below).0 in let inside = on.inside in omega (arith, less, inside))) (λ j below. (behind j below).1))
+
+  -- and there are so many.
+  pub late_long : length homes ≡ length own + length list
+  late_long = let both = ap (λ (xs : List ℕ). length xs) late.homes_are in let long = length-append own others in let size = late.placed.size in omega (arith, both, long, size)
+
+  -- a source that gives the pages of the list gives all of it
+  pub late_gives : (skipped : ℕ) (Gives : ℕ → Type 0) → ((i : ℕ) → i < skipped + length list → Gives i)
+      → (j : ℕ) → j < length homes → (j < length front + length places) × (length front ≤ j → Gives (skipped + index_at places (j - length front)))
+  late_gives skipped Gives gives j below =
+      let long = late_long in
+      let as_many = late.fronts.long in
+      let count = late.placed.count in
+      let size = late.placed.size in (
+        omega (arith, long, as_many, count, below),
+        λ from. (
+            let k : ℕ = j - length front in
+            let within : k < length others = omega (arith, long, as_many, size, below, from) in
+            let each = late.placed.each k within in
+            let index = slice_get_within list (index_at places k) each.0 each.1 in
+            gives (skipped + index_at places k) (omega (arith, index))),
+      )
+
+-- The store is ready again, with another directory.
+module _ {D : Type 0} (g : Ghosts D) (store : PoolStore D) (disk : D) (journal : PoolJournal) (directory : Directory) (room : CommitRoom) where
+  ready_then : IsReadyPool g store → IsPoolJournal journal → journal.sizes ≡ store.journal.sizes → g.sector_count disk ≡ g.sector_count store.disk → HasCommitRoom store.journal.sizes.blocks room
+      → (entries : List (Option Entry)) → directory.pages ≡ store.directory.pages → directory.entries.items ≡ entries → AreEntries store.directory.pages store.journal.sizes.homes entries
+      → (g.keeps_model disk → IsPoolRest g store.journal.sizes.blocks store.journal.sizes.homes journal.second (entries_of journal.map) disk)
+      → (g.keeps_model disk → (g.content disk 0 ≡ pool_mark) × IsKind store.journal.sizes.blocks store.directory.pages (g.content disk 1))
+      → (g.keeps_model disk → AreSaid store.directory.pages (pool_standing store.journal.sizes.blocks store.journal.sizes.homes (g.content disk)) entries)
+      → IsReadyPool g (record { disk = disk; journal = journal; directory = directory; room = room })
+  ready_then ready is same size has entries pages items may rest head said = record {
+    is = record {
+      is_journal = is;
+      pool = subst (λ (sizes : PoolSizes). HasPool g sizes disk) (sym same) (record {
+        sized = ready.pool.sized;
+        room = subst (λ count. pool_home store.journal.sizes.blocks 0 ≤ count) (sym size) ready.pool.room;
+        homes = ready.pool.homes ∙ ap (pool_home_count store.journal.sizes.blocks) (sym size);
+      });
+      is_directory = subst (λ (sizes : PoolSizes). IsDirectoryOn sizes.homes directory) (sym same) (record {
+        sized = subst IsDirectorySize (sym pages) ready.is_directory.sized;
+        inside = subst (λ p. p ≤ store.journal.sizes.homes) (sym pages) ready.is_directory.inside;
+        may = subst (λ p. AreEntries p store.journal.sizes.homes directory.entries.items) (sym pages) (subst (λ (es : List (Option Entry)). AreEntries store.directory.pages store.journal.sizes.homes es) (sym items) may);
+      });
+      at_rest = λ keeps. record {
+        rest = subst (λ (sizes : PoolSizes). IsPoolRest g sizes.blocks sizes.homes journal.second (entries_of journal.map) disk) (sym same) (rest keeps);
+        mark = (head keeps).0;
+        kind = subst (λ (sizes : PoolSizes). IsKind sizes.blocks directory.pages (g.content disk 1)) (sym same) (subst (λ p. IsKind store.journal.sizes.blocks p (g.content disk 1)) (sym pages) (head keeps).1);
+        said = subst (λ (sizes : PoolSizes). AreSaid directory.pages (pool_standing sizes.blocks sizes.homes (g.content disk)) directory.entries.items) (sym same)
+            (subst (λ p. AreSaid p (pool_standing store.journal.sizes.blocks store.journal.sizes.homes (g.content disk)) directory.entries.items) (sym pages)
+            (subst (λ (es : List (Option Entry)). AreSaid store.directory.pages (pool_standing store.journal.sizes.blocks store.journal.sizes.homes (g.content disk)) es) (sym items) (said keeps)));
+      };
+    };
+    room = subst (λ (sizes : PoolSizes). HasCommitRoom sizes.blocks room) (sym same) has;
+  }
+
+-- A source gives what goes into slots, from another one:
+pub record GivesLate {S L : Type 0} (s : SourceGhosts S) (l : SourceGhosts L) (pages : (ℕ → List ℕ) → ℕ → List ℕ) (from left : S) (late spent : L) : Type 0 where
+  -- these pages, out of the other's,
+  pub pages_are : l.pages late ≡ pages (s.pages from)
+  -- with its model and its failures,
+  pub keeps : s.keeps_model left → l.keeps_model spent
+  pub failed : l.failures late ≡ s.failures from
+  pub fails : l.failures spent ≡ s.failures left
+  -- and asks it for pages alone.
+  pub asks : Asks s from left
+
+module _ {D S : Type 0} (g : Ghosts D) (s : SourceGhosts S) (store : PoolStore D) (changes : List Change) (list : List FilePage) (from : S)
+    (ready : IsReadyPool g store) (are : AreFileChanges store.journal.sizes.homes store.directory changes) where
+  abbrev m : ℕ
+  m = store.journal.sizes.blocks
+
+  abbrev n : ℕ
+  n = store.journal.sizes.homes
+
+  abbrev sectors : ℕ
+  sectors = g.sector_count store.disk
+
+  abbrev old : Image
+  old = g.content store.disk
+
+  -- an image whose other homes are as they were
+  abbrev Others : Image → Type 0
+  Others = LeavesOtherHomes m n (IsNewHome store.directory changes) old
+
+  abbrev IsNew : ℕ → Type 0
+  IsNew = IsNewSector store.journal store.directory changes
+
+  abbrev Stands : (ℕ → Option FileInfo) → (ℕ → ℕ → List ℕ) → Image → Type 0
+  Stands = StandsFor (files_in_pool m store.directory.pages n) sectors
+
+  abbrev OneOf : (ℕ → Option FileInfo) → (ℕ → ℕ → List ℕ) → (ℕ → ℕ → List ℕ) → Image → Type 0
+  OneOf files before after = StandsForOneOf (files_in_pool m store.directory.pages n) sectors files before (files_after files changes) after
+
+  said : g.keeps_model store.disk → AreSaid store.directory.pages (pool_standing m n old) store.directory.entries.items
+  said keeps = (ready.at_rest keeps).said
+
+  as_before : g.keeps_model store.disk → (files : ℕ → Option FileInfo) (before : ℕ → ℕ → List ℕ) → LeavesNow g store.disk (Stands files before) → (image : Image) → Others image → Stands files before image
+  as_before keeps files before left image others = stands_before n store.directory ready.is_directory changes are m sectors old (said keeps) image others files before (has_content g store.disk (Stands files before) left)
+
+  -- New pages are put.
+  module _ (mid : D) (between : S) (put : Result (Unit {0}) CommitFault) (puts : PutsNewPages g s store.journal store.directory changes store.disk mid from between put) where
+    put_moments : g.keeps_model mid → (files : ℕ → Option FileInfo) (before : ℕ → ℕ → List ℕ) → LeavesNow g store.disk (Stands files before) → LeavesOnly g store.disk mid (Stands files before)
+    put_moments keeps files before left = weaker g store.disk mid Others (Stands files before) (as_before (puts.kept keeps) files before left) (puts.any_moment keeps)
+
+    put_blocks : g.keeps_model mid → (files : ℕ → Option FileInfo) (before after : ℕ → ℕ → List ℕ) → LeavesNow g store.disk (Stands files before) → LeavesInBlocks g IsNew (OneOf files before after) store.disk mid
+    put_blocks keeps files before after left = blocks_weaker g IsNew Others (OneOf files before after) store.disk mid (λ image others. inl (as_before (puts.kept keeps) files before left image others)) (puts.blocks keeps)
+
+  -- A fault was told.
+  pub not_put : (mid : D) (between : S) (fault : CommitFault) → PutsNewPages g s store.journal store.directory changes store.disk mid from between (Err fault)
+      → (result : Result (Unit {0}) CommitFault) → IsErrAnd result (λ e. e ≡ fault) → CommitsChanges g s store (record { disk = mid; journal = store.journal; directory = store.directory; room = store.room }) changes list from between result
+  not_put mid between fault puts (Ok done) is = absurd is
+  not_put mid between fault puts (Err e) is = record {
+    ok = λ keeps given files before after left change. tt;
+    synced = λ keeps. tt;
+    ready = λ given. tt;
+    files = tt;
+    room = tt;
+    any_moment = λ keeps given files before after left change. weaker g store.disk mid (Stands files before) (OneOf files before after) (λ image was. inl was) (put_moments mid between (Err fault) puts keeps files before left);
+    blocks = λ keeps given files before after left change. inl (put_blocks mid between (Err fault) puts keeps files before after left);
+    source = λ keeps told files before left. put_moments mid between (Err fault) puts keeps files before left;
+    files_after_error = λ told. refl;
+    sizes = refl;
+    pages = refl;
+    size = puts.size;
+    kept = puts.kept;
+    asks = puts.asks;
+    asks_device = asks_once g (IsChangeAsked store changes list) IsNew store.disk mid (λ k new. inl new) puts.once;
+    touches = λ keeps. wider g IsNew (IsChangedSector store changes) store.disk mid (λ k new. inl new) (puts.touches keeps);
+    causes = told_on (g.failures store.disk) (g.failures mid) (s.failures from) (s.failures between) fault (Err e) is puts.causes;
+  }
+
+  -- They are, and the rest is committed.
+  module _ (kept : AreKeptPages store changes list) (mid : D) (between : S) (puts : PutsNewPages g s store.journal store.directory changes store.disk mid from between (Ok (tt {0})))
+      (places : List Place) (front : List (List ℕ)) (homes : List ℕ) (lists : AreLate store.directory changes list places front homes)
+      {L : Type 0} (l : SourceGhosts L) (left : S) (late spent : L)
+      (gives : GivesLate s l (late_page store.directory changes list front places (added_count (info_by store.directory) changes)) between left late spent) where
+    abbrev Pages : (ℕ → List ℕ) → ℕ → List ℕ
+    Pages = late_page store.directory changes list front places (added_count (info_by store.directory) changes)
+
+    abbrev all_homes : List ℕ
+    all_homes = late_homes store.directory changes places
+
+    abbrev After : (ℕ → List ℕ) → ℕ → ℕ → List ℕ
+    After pages = changed (pool_standing m n (g.content mid)) all_homes pages
+
+    all_long : length all_homes ≡ length (changed_pages changes store.directory.pages) + length list
+    all_long = sym (ap (λ (hs : List ℕ). length hs) lists.homes_are) ∙ late_long n store.directory ready.is_directory changes list places front homes lists
+
+    beside : g.keeps_model mid → Others (g.content mid)
+    beside keeps = let run = puts.blocks keeps in run.each mid run.writes (g.content mid) (record { kept = λ k. inr refl })
+
+    -- what the source gives it gave from the beginning
+    pages_are : s.keeps_model left → l.pages late ≡ Pages (s.pages from)
+    pages_are given = gives.pages_are ∙ ap Pages (λ t k. puts.asks.same (gives.asks.kept given) k t)
+
+    -- what stands as it did then,
+    still : g.keeps_model mid → (count : ℕ) (image : Image) → HomesStandAs (pool m n) count (g.content mid) image → Others image
+    still keeps count image alike = let was = beside keeps in record { stands = λ h i other below. alike.stands.each h i below ∙ was.stands h i other below; outside = λ k out. alike.outside k out ∙ was.outside k out }
+
+    -- and what has the rest
+    has_rest : s.keeps_model left → (count : ℕ) (image : Image) → IsKept (pool m n) count (g.content mid) (StandsForPages (pool m n) (After (l.pages late))) image
+        → IsKept (pool m n) sectors (g.content mid) (StandsForPages (pool m n) (After (Pages (s.pages from)))) image
+    has_rest given count image alike = record { stands = record { each = λ h i below. alike.stands.each h i below ∙ ap (λ pages. After pages h i) (pages_are given) }; journal = λ bad. bad; outside = alike.outside }
+
+    as_after : g.keeps_model mid → s.keeps_model left → (files : ℕ → Option FileInfo) (before after : ℕ → ℕ → List ℕ) → LeavesNow g store.disk (Stands files before) → ChangesFiles files changes list (s.pages from) before after
+        → (count : ℕ) (image : Image) → IsKept (pool m n) count (g.content mid) (StandsForPages (pool m n) (After (l.pages late))) image → Stands (files_after files changes) after image
+    as_after keeps given files before after now change count image alike = stands_after n store.directory ready.is_directory changes are m sectors old (said (puts.kept keeps)) list kept.before kept.after kept.ends
+        places (map (λ place. place.home) places) lists.placed front lists.fronts (s.pages from) (g.content mid) (beside keeps) (puts.puts keeps (gives.asks.kept given)) image
+        (has_rest given count image alike) files before after (has_content g store.disk (Stands files before) now) change
+
+    says_after : g.keeps_model mid → s.keeps_model left → (count : ℕ) (image : Image) → IsKept (pool m n) count (g.content mid) (StandsForPages (pool m n) (After (l.pages late))) image
+        → AreSaid store.directory.pages (pool_standing m n image) (entries_then store.directory changes)
+    says_after keeps given count image alike = said_then n store.directory ready.is_directory changes are m sectors old (said (puts.kept keeps)) list kept.before kept.after kept.ends
+        places (map (λ place. place.home) places) lists.placed front lists.fronts (s.pages from) (g.content mid) (beside keeps) (puts.puts keeps (gives.asks.kept given)) image (has_rest given count image alike)
+
+    as_one : g.keeps_model mid → s.keeps_model left → (files : ℕ → Option FileInfo) (before after : ℕ → ℕ → List ℕ) → LeavesNow g store.disk (Stands files before) → ChangesFiles files changes list (s.pages from) before after
+        → (image : Image) → HomesStandOr (pool m n) (g.sector_count mid) all_homes (l.pages late) (g.content mid) image → OneOf files before after image
+    as_one keeps given files before after now change image alike = ⊎_elim
+        (λ stands. inl (as_before (puts.kept keeps) files before now image (still keeps (g.sector_count mid) image (record { stands = stands; journal = alike.journal; outside = alike.outside }))))
+        (λ stands. inr (as_after keeps given files before after now change (g.sector_count mid) image (record { stands = stands; journal = alike.journal; outside = alike.outside })))
+        alike.stands
+
+    module _ (new : D) (journal : PoolJournal) (directory : Directory) (room : CommitRoom) (result : Result (Unit {0}) CommitFault)
+        (commits : CommitsInPool g l store.journal journal all_homes mid new late spent result) where
+      abbrev Either : Image → Type 0
+      Either = HomesStandOr (pool m n) (g.sector_count mid) all_homes (l.pages late) (g.content mid)
+
+      causes : HasCauses (g.failures store.disk) (g.failures new) (s.failures from) (s.failures left) result
+      causes = subst (λ a. HasCauses a (g.failures new) (s.failures from) (s.failures left) result) puts.causes.device_calm
+          (subst (λ x. HasCauses (g.failures mid) (g.failures new) x (s.failures left) result) (gives.failed ∙ puts.causes.source_calm)
+          (subst (λ y. HasCauses (g.failures mid) (g.failures new) (l.failures late) y result) gives.fails commits.causes))
+
+      touches : g.keeps_model new → Touches g (IsChangedSector store changes) store.disk new
+      touches keeps = (then) g (IsChangedSector store changes) store.disk mid new
+          (wider g IsNew (IsChangedSector store changes) store.disk mid (λ k new. inl new) (puts.touches (commits.kept keeps)))
+          (wider g (λ k. IsPoolGate k ⊎ IsLoose m store.journal.second (entries_of store.journal.map) k) (IsChangedSector store changes) mid new (λ k loose. inr loose) (commits.touches keeps))
+
+      asks_device : AsksOnly g (IsChangeAsked store changes list) store.disk new
+      asks_device = asks_then g (IsChangeAsked store changes list) store.disk mid new (asks_once g (IsChangeAsked store changes list) IsNew store.disk mid (λ k new. inl new) puts.once)
+          (asks_wider g (λ k. IsPoolGate k ⊎ IsPoolStaged m store.journal.second (entries_of store.journal.map) all_homes k) (IsChangeAsked store changes list) mid new
+          (λ k. ⊎_elim (λ gate. inr (inl gate)) (λ staged. inr (inr (late_staged store.directory changes list places lists.placed m store.journal.second (entries_of store.journal.map) k staged)))) commits.asks_device)
+
+      leaves_room : OnOk result (length list + length (changed_pages changes store.directory.pages) ≤ 504 * m → 504 * m ≤ free_count m (entries_of journal.map))
+      leaves_room = on_ok_weaker result (λ enough few. enough (omega (arith, few, all_long))) commits.room
+
+      moments : g.keeps_model new → s.keeps_model left → (files : ℕ → Option FileInfo) (before after : ℕ → ℕ → List ℕ) → LeavesNow g store.disk (Stands files before) → ChangesFiles files changes list (s.pages from) before after
+          → LeavesOnly g store.disk new (OneOf files before after)
+      moments keeps given files before after now change = joined g store.disk mid new (OneOf files before after)
+          (weaker g store.disk mid (Stands files before) (OneOf files before after) (λ image was. inl was) (put_moments mid between (Ok (tt {0})) puts (commits.kept keeps) files before now))
+          (weaker g mid new Either (OneOf files before after) (as_one (commits.kept keeps) given files before after now change) (commits.any_moment keeps (gives.keeps given)))
+
+      in_blocks : g.keeps_model new → s.keeps_model left → (files : ℕ → Option FileInfo) (before after : ℕ → ℕ → List ℕ) → LeavesNow g store.disk (Stands files before) → ChangesFiles files changes list (s.pages from) before after
+          → ChangesInBlocks g store changes (OneOf files before after) store.disk new
+      in_blocks keeps given files before after now change = inr (
+        mid,
+        put_blocks mid between (Ok (tt {0})) puts (commits.kept keeps) files before after now,
+        in_blocks_weaker g m store.journal.second (entries_of store.journal.map) Either (OneOf files before after) mid new (as_one (commits.kept keeps) given files before after now change) (commits.blocks keeps (gives.keeps given)),
+      )
+
+      -- the store, where all went well
+      is_ready : HasCommitRoom m room → directory.pages ≡ store.directory.pages → OnOk result (directory.entries.items ≡ entries_then store.directory changes) → s.keeps_model left
+          → OnOk result (IsReadyPool g (record { disk = new; journal = journal; directory = directory; room = room }))
+      is_ready has pages items given = each_way result commits items
+        where
+          outside : g.keeps_model new → (k : ℕ) → k < pool_gate → (r : Result (Unit {0}) CommitFault) → CommitsInPool g l store.journal journal all_homes mid new late spent r → OnOk r (g.content new k ≡ old k)
+          outside keeps k front (Err fault) c = tt
+          outside keeps k front (Ok done) c = c.outside keeps k (inl front) ∙ (beside (c.kept keeps)).outside k (inl front)
+
+          each_way : (r : Result (Unit {0}) CommitFault) → CommitsInPool g l store.journal journal all_homes mid new late spent r → OnOk r (directory.entries.items ≡ entries_then store.directory changes)
+              → OnOk r (IsReadyPool g (record { disk = new; journal = journal; directory = directory; room = room }))
+          each_way (Err fault) c at = tt
+          each_way (Ok done) c at = ready_then g store new journal directory room ready c.is c.sizes (c.size ∙ puts.size) has (entries_then store.directory changes) pages at are.may
+              (λ keeps. subst (λ b. IsPoolRest g m n b (entries_of journal.map) new) (sym c.second) (c.rest keeps))
+              (λ keeps. (let was = ready.at_rest (puts.kept (c.kept keeps)) in (
+                outside keeps 0 (omega arith) (Ok done) c ∙ was.mark,
+                subst (λ (sector : List ℕ). IsKind m store.directory.pages sector) (sym (outside keeps 1 (omega arith) (Ok done) c)) was.kind,
+              )))
+              (λ keeps. (let settled = c.ok keeps (gives.keeps given) in says_after (c.kept keeps) given (g.sector_count mid) (g.content new)
+              (record { stands = settled.stands; journal = λ bad. bad; outside = settled.outside })))
+
+      are_committed : (s.follows from between → s.follows between left → s.follows from left) → HasCommitRoom m room → directory.pages ≡ store.directory.pages
+          → OnOk result (directory.entries.items ≡ entries_then store.directory changes) → (IsErr result → directory ≡ store.directory)
+          → CommitsChanges g s store (record { disk = new; journal = journal; directory = directory; room = room }) changes list from left result
+      are_committed goes_on has pages items same = record {
+        ok = λ keeps given files before after now change. on_ok_weaker result
+            (λ settled image may. as_after (commits.kept keeps) given files before after now change (g.sector_count mid) image (settled.left image may)) (commits.ok keeps (gives.keeps given));
+        synced = commits.synced;
+        ready = is_ready has pages items;
+        files = items;
+        room = leaves_room;
+        any_moment = moments;
+        blocks = in_blocks;
+        source = λ keeps told files before now. joined g store.disk mid new (Stands files before) (put_moments mid between (Ok (tt {0})) puts (commits.kept keeps) files before now)
+            (weaker g mid new (HomesStandAs (pool m n) (g.sector_count mid) (g.content mid)) (Stands files before)
+            (λ image alike. as_before (puts.kept (commits.kept keeps)) files before now image (still (commits.kept keeps) (g.sector_count mid) image alike)) (commits.source_moments keeps told));
+        files_after_error = same;
+        sizes = commits.sizes;
+        pages = pages;
+        size = commits.size ∙ puts.size;
+        kept = λ keeps. puts.kept (commits.kept keeps);
+        asks = asks_more from between left goes_on puts.asks gives.asks;
+        asks_device = asks_device;
+        touches = touches;
+        causes = causes;
+      }
+
+    pub is_committed : (new : D) (journal : PoolJournal) → (told result : Result (Unit {0}) CommitFault) → told ≡ result → CommitsInPool g l store.journal journal homes mid new late spent told
+        → (s.follows from between → s.follows between left → s.follows from left) → (room : CommitRoom) → HasCommitRoom m room → (directory : Directory) → directory.pages ≡ store.directory.pages
+        → OnOk result (directory.entries.items ≡ entries_then store.directory changes) → (IsErr result → directory ≡ store.directory) → (end : S) → end ≡ left
+        → CommitsChanges g s store (record { disk = new; journal = journal; directory = directory; room = room }) changes list from end result
+    is_committed new journal told result same commits goes_on room has directory pages items still_there end ends =
+        let listed : CommitsInPool g l store.journal journal all_homes mid new late spent told = subst (λ (hs : List ℕ). CommitsInPool g l store.journal journal hs mid new late spent told) lists.homes_are commits in
+        let answered : CommitsInPool g l store.journal journal all_homes mid new late spent result = subst (λ (r : Result (Unit {0}) CommitFault). CommitsInPool g l store.journal journal all_homes mid new late spent r) same listed in
+        subst (λ (left : S). CommitsChanges g s store (record { disk = new; journal = journal; directory = directory; room = room }) changes list from left result) (sym ends)
+        (are_committed new journal directory room result answered goes_on has pages items still_there)

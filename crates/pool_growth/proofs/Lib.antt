@@ -1,0 +1,12 @@
+pub mod New
+pub mod Rest
+pub mod Cut
+pub mod Directory
+pub mod Fronts
+pub mod Checked
+pub mod After
+pub mod Placed
+pub mod Applied
+pub mod Listed
+pub mod Slotted
+pub mod Committed

@@ -1,0 +1,98 @@
+-- What is found of changes and pages one by one.
+use Rattle.std.specs.Prelude.{ℕ, ◌*◌, ◌/◌, ◌%◌, ◌^◌, ◌<◌, ◌≤◌, ◌≡◌, ◌⊎◌, List, length, slice_get, Option, Some, IfSome, min, take}
+use Rattle.std.specs.List.{All, AllPairs}
+use Rattle.std.specs.Option.{option_map}
+use Rattle.vm_types.specs.Limits.{file_limit}
+use Rattle.vm_types.specs.declared.{file.FileInfo.{FileInfo}, file.FilePage.{FilePage}}
+use Rattle.directories.specs.{Homes.{homes_of, HasHome}, Layouts.{entry_in}}
+use Rattle.directories.specs.declared.entry.Entry.{Entry}
+use Rattle.growth.specs.{Changes.{AreChanges}, Parts.{extents_of_file, kept_count}, Refusals.{IsChangeRefused}}
+use Rattle.growth.specs.declared.changes.Change.{Change}
+use Rattle.pool_growth.specs.Asked.{entries_then, AreKeptPages}
+use Rattle.pool_growth.specs.Files.{files_after, file_page_count, StandsInList}
+use Rattle.pool_growth.specs.declared.faults.{BadChanges.{BadChanges}, BadPages.{BadPages}}
+use Rattle.pool_growth.specs.declared.faults.BadChanges.TheVariants.{Form, Large, Homes, Moved}
+use Rattle.pool_growth.specs.declared.faults.BadPages.TheVariants.{Order, Outside, End, TooMany}
+use Rattle.pool_store.specs.{Files.{info_of}, Store.{entry_of, info_by}}
+use Rattle.pool_store.specs.declared.{directory.Directory.{Directory}, store.PoolStore.{PoolStore}}
+
+-- a file that a change gives has a number below 64 and a length of four bytes
+abbrev pub IsSmallChange : Change → Type 0
+IsSmallChange c = IfSome c.entry (λ e. (c.file < file_limit) × (e.length < 2 ^ 32))
+
+-- the homes of the extents in front that are the same before and after
+abbrev pub kept_home_count : Option Entry → Option Entry → ℕ
+kept_home_count was now = length (homes_of (take (kept_count (extents_of_file was) (extents_of_file now)) (extents_of_file now)))
+
+-- how many pages a file keeps
+abbrev pub pages_kept : Option Entry → Option Entry → ℕ
+pages_kept was now = min (file_page_count (option_map info_of was)) (file_page_count (option_map info_of now))
+
+-- those extents have a home for each page that a file keeps
+abbrev pub HasKeptHomes : Option Entry → Option Entry → Type 0
+HasKeptHomes was now = pages_kept was now ≤ kept_home_count was now
+
+-- and so it is of each changed file
+abbrev pub AllKeepHomes : Directory → List Change → Type 0
+AllKeepHomes directory changes = All (λ c. HasKeptHomes (entry_of directory c.file) c.entry) changes
+
+-- a change of file f is bad
+abbrev pub HasBadChange : (Change → Type 0) → List Change → ℕ → Type 0
+HasBadChange Is_good changes f = (i : ℕ) × (c : Change) × (slice_get changes i ≡ Some c) × (c.file ≡ f) × (Is_good c → ⊥)
+
+-- File f keeps a page that gets another home:
+pub record MovesPage (before after : List (Option Entry)) (f : ℕ) : Type 0 where
+  pub page : ℕ
+  pub home : ℕ
+  -- it is one before and after,
+  pub was : page < file_page_count (option_map info_of (entry_in before f))
+  pub stays : page < file_page_count (option_map info_of (entry_in after f))
+  -- had this home,
+  pub had : HasHome before f page home
+  -- and hasn't it then.
+  pub lost : HasHome after f page home → ⊥
+
+-- why changes are refused
+abbrev pub AreChangesRefused : ℕ → Directory → List Change → BadChanges → Type 0
+AreChangesRefused n directory changes Form = AreChanges directory.entries.items changes → ⊥
+AreChangesRefused n directory changes (Large f) = HasBadChange IsSmallChange changes f
+AreChangesRefused n directory changes (Homes fault) = IsChangeRefused directory.pages n directory.entries.items (entries_then directory changes) fault
+AreChangesRefused n directory changes (Moved f) = MovesPage directory.entries.items (entries_then directory changes) f
+
+-- one page comes before another, by file and then by page
+abbrev pub PrecedesPage : FilePage → FilePage → Type 0
+PrecedesPage p q = (p.file < q.file) ⊎ ((p.file ≡ q.file) × (p.page < q.page))
+
+-- page k begins inside a file
+abbrev pub BeginsInside : Option FileInfo → ℕ → Type 0
+BeginsInside file k = (info : FileInfo) × (file ≡ Some info) × (4096 * k < info.length)
+
+-- a page begins inside its file before changes and after them
+abbrev pub IsKeptPage : Directory → List Change → FilePage → Type 0
+IsKeptPage directory changes p = BeginsInside (info_by directory p.file) p.page × BeginsInside (files_after (info_by directory) changes p.file) p.page
+
+abbrev pub AreAllKept : Directory → List Change → List FilePage → Type 0
+AreAllKept directory changes list = All (IsKeptPage directory changes) list
+
+-- where file f gets longer and its last page was not full, that page is one of the list
+abbrev pub ListsEnd : List FilePage → ℕ → Option FileInfo → Option FileInfo → Type 0
+ListsEnd list f before after = (was now : FileInfo) → before ≡ Some was → after ≡ Some now → was.length < now.length → (was.length % 4096 ≡ 0 → ⊥)
+    → StandsInList list f (was.length / 4096)
+
+abbrev pub HasEnd : Directory → List Change → List FilePage → ℕ → Type 0
+HasEnd directory changes list f = ListsEnd list f (info_by directory f) (files_after (info_by directory) changes f)
+
+-- and so it is of each file
+abbrev pub HasAllEnds : Directory → List Change → List FilePage → Type 0
+HasAllEnds directory changes list = (f : ℕ) → HasEnd directory changes list f
+
+-- pages rise, and may not be committed with changes
+abbrev RiseButAreBad : {D : Type 0} → PoolStore D → List Change → List FilePage → Type 0
+RiseButAreBad store changes list = AllPairs PrecedesPage list × (AreKeptPages store changes list → ⊥)
+
+-- why pages are refused: they don't rise; or they do, and something else is bad
+abbrev pub ArePagesRefused : {D : Type 0} → PoolStore D → List Change → List FilePage → BadPages → Type 0
+ArePagesRefused store changes list Order = AllPairs PrecedesPage list → ⊥
+ArePagesRefused store changes list (Outside p) = RiseButAreBad store changes list
+ArePagesRefused store changes list (End f) = RiseButAreBad store changes list
+ArePagesRefused store changes list TooMany = RiseButAreBad store changes list

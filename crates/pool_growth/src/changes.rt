@@ -1,0 +1,12 @@
+//! What is asked of a commit.
+use growth::Change;
+use vm_types::FilePage;
+
+/// What a commit changes.
+#[derive(Clone, Copy)]
+pub struct FileChanges<'a> {
+    /// What becomes of files, in the order of their numbers.
+    pub changes: &'a [Change],
+    /// Pages that their files had before and have afterwards, and that are written too.
+    pub pages: &'a [FilePage],
+}

@@ -1,0 +1,76 @@
+//! Changes of files, and pages of theirs, committed all at once.
+ghost use Rattle.std.specs.Prelude.{◌≡◌, ◌<◌, ◌+◌, ℕ, length};
+ghost use Rattle.pool_growth.specs.Asked.{AreFileChanges, AreKeptPages, entries_then};
+ghost use Rattle.pool_growth.specs.Commit.{CommitsChanges};
+ghost use Rattle.pool_growth.specs.Files.{added_count};
+ghost use Rattle.pool_growth.specs.Front.{HasChangeRoom};
+ghost use Rattle.pool_store.specs.Store.{files_of, IsReadyPool};
+
+use crate::changes::FileChanges;
+use crate::front::ChangeRoom;
+use crate::late::Late;
+use crate::lookups::added_count;
+use crate::placing::put_new_pages;
+use disk_model::SectorDisk;
+use growth::Change;
+use pool_store::{Directory, PoolStore};
+use sync_journal::{CommitFault, PageSource};
+
+/// Makes changes of files durable, and pages of theirs, all at once. The source gives first the new pages, which are those behind the last one that their file had, in
+/// the order of the changes, and then those of the list; each becomes zeros past its file's new end. A page that is neither is what it was.
+///
+/// The changes are such as `check_changes` takes, and the pages such as `check_pages` takes. Where there are new pages it takes 3 syncs, otherwise 2.
+///
+/// # Errors
+///
+/// `Source` comes only where the source failed: every image that a stop might have left stands for the files before. `Device` comes only where the device failed: every
+/// one stands for the files before or for those after. After either the store is to be opened again.
+pub fn commit_changes<D: SectorDisk, S: PageSource>(
+    store: &mut PoolStore<D>,
+    room: &mut ChangeRoom,
+    asked: FileChanges<'_>,
+    source: &mut S,
+) -> Result<(), CommitFault>
+    requires ready { IsReadyPool D.SectorDisk store.old }
+    requires room { HasChangeRoom store.old.journal.sizes.blocks store.old.directory.pages room.old }
+    requires changes { AreFileChanges store.old.journal.sizes.homes store.old.directory asked.changes.now }
+    requires pages { AreKeptPages store.old asked.changes.now asked.pages.now }
+    requires gives { (i : ℕ) → i < added_count (files_of store.old) asked.changes.now + length asked.pages.now → S.gives source.old i }
+    ensures { CommitsChanges D.SectorDisk S.PageSource store.old store.new asked.entry.changes.now asked.entry.pages.now source.old source.new result }
+{
+    put_new_pages(
+        &mut store.disk,
+        &store.journal,
+        &store.directory,
+        asked.changes,
+        source,
+    )?;
+    store.room.place(&store.directory, asked.pages);
+    let places = &store.room.places[..asked.pages.len()];
+    room.list_directory(&store.directory, asked.changes);
+    room.list_kept(places);
+    let mut late = Late {
+        source,
+        skipped: added_count(&store.directory, asked.changes) as u32,
+        front: &room.pages,
+        places,
+        asked,
+        directory: &store.directory,
+    };
+    store
+        .journal
+        .commit(&mut store.disk, &room.homes, &mut late)?;
+    apply(&mut store.directory, asked.changes);
+    Ok(())
+}
+
+/// The directory in memory becomes what it is after changes.
+fn apply(directory: &mut Directory, changes: &[Change])
+    requires { (homes : ℕ) × AreFileChanges homes directory.old changes.now }
+    ensures entries { directory.new.entries.items ≡ entries_then directory.old changes.now }
+    ensures pages { directory.new.pages ≡ directory.old.pages }
+{
+    for change in changes {
+        directory.entries[change.file as usize] = change.entry;
+    }
+}

@@ -1,0 +1,209 @@
+//! Files of a store with a pool that grow, come and go with a commit.
+ghost use Rattle.pool_store.specs.Store.{IsReadyPool};
+
+use crate::bench::{FILES, Filled, LAST, equal, expect, left};
+use directories::{EXTENTS, Entry, Extent};
+use disk_model::{SectorDisk, SimDisk};
+use growth::Change;
+use pool_growth::{
+    ChangeRoom, FileChanges, added_count, check_changes, check_pages, commit_changes,
+};
+use pool_store::{PoolStore, format, image_bytes};
+use std::process::Abort;
+use sync_journal::CommitFault;
+use vm_types::FilePage;
+
+/// An entry of a file of so many bytes, whose pages are so many homes from one on and then from another one on.
+fn entry(length: u64, first: (u32, u32), second: (u32, u32)) -> Option<Entry> {
+    let mut extents = [Extent { first: 0, count: 0 }; EXTENTS];
+    extents[0] = Extent {
+        first: first.0,
+        count: first.1,
+    };
+    extents[1] = Extent {
+        first: second.0,
+        count: second.1,
+    };
+    Some(Entry {
+        read_only: false,
+        length,
+        extent_count: 2,
+        extents,
+    })
+}
+
+/// A new store of three files, of 0, 4,097 and 3 bytes, in homes 4 to 6, on a device with 16 more.
+fn made(rt: &(impl AllocGlobal + Abort)) -> SimDisk {
+    let mut files = FILES;
+    let sectors = image_bytes(1, &files) / 512 + 128;
+    let mut disk = SimDisk::new(rt.alloc(), sectors).expect(rt, "memory");
+    format(&mut disk, 1, &mut files).expect(rt, "a store");
+    disk
+}
+
+fn opened(rt: &(impl AllocGlobal + Abort), disk: SimDisk) -> PoolStore<SimDisk>
+    ensures { IsReadyPool ⟦<SimDisk as SectorDisk>⟧ result }
+{
+    match PoolStore::open(rt.alloc(), disk) {
+        Ok(store) => store,
+        Err((fault, _)) => panic!(rt; "{fault}"),
+    }
+}
+
+/// File 0 gets three pages, file 1 a third one, file 2 goes, and file 3 comes with one.
+fn changes() -> [Change; 4] {
+    [
+        Change {
+            file: 0,
+            entry: entry(9000, (8, 2), (12, 1)),
+        },
+        Change {
+            file: 1,
+            entry: entry(8193, (4, 2), (10, 1)),
+        },
+        Change {
+            file: 2,
+            entry: None,
+        },
+        Change {
+            file: 3,
+            entry: entry(1, (11, 1), (0, 0)),
+        },
+    ]
+}
+
+/// Makes the changes with page 1 of file 1, each page of its byte. A page of `!` makes the source fail.
+fn change(
+    rt: &(impl AllocGlobal + Abort),
+    store: &mut PoolStore<SimDisk>,
+    bytes: &[u8],
+) -> Result<(), CommitFault>
+    requires { IsReadyPool ⟦<SimDisk as SectorDisk>⟧ store.old }
+{
+    let changes = changes();
+    let asked = FileChanges {
+        changes: &changes,
+        pages: &[LAST],
+    };
+    match check_changes(store, &changes) {
+        Ok(()) => {}
+        Err(fault) => panic!(rt; "{fault:?}"),
+    }
+    match check_pages(store, asked) {
+        Ok(()) => {}
+        Err(fault) => panic!(rt; "{fault:?}"),
+    }
+    let count = added_count(&store.directory, &changes);
+    expect(
+        rt,
+        bytes.len() > 0 && count == bytes.len() - 1,
+        "not a byte for each page",
+    );
+    let mut room = ChangeRoom::new(rt.alloc(), store.journal.sizes(), store.directory.pages).expect(
+        rt, "memory",
+    );
+    let mut source = Filled {
+        bytes,
+        has_failed: false,
+    };
+    commit_changes(store, &mut room, asked, &mut source)
+}
+
+/// The byte of which a page has as many as lie inside its file, and zeros behind them; a dash where its file has no such page.
+fn byte(rt: &impl Abort, store: &mut PoolStore<SimDisk>, page: FilePage) -> u8
+    requires { IsReadyPool ⟦<SimDisk as SectorDisk>⟧ store.old }
+    ensures { IsReadyPool ⟦<SimDisk as SectorDisk>⟧ store.new }
+{
+    let inside = match store.file(page.file) {
+        Some(info) => info.bytes_inside(page.page),
+        None => 0,
+    };
+    if inside == 0 {
+        return b'-';
+    }
+    let mut bytes = [255; 4096];
+    store.read_page(page, &mut bytes).expect(rt, "a page");
+    for i in 0..4096 {
+        let wanted = if i < inside { bytes[0] } else { 0 };
+        expect(rt, bytes[i] == wanted, "a page of other bytes");
+    }
+    bytes[0]
+}
+
+/// Those of the first three pages of a file.
+fn file_bytes(rt: &impl Abort, store: &mut PoolStore<SimDisk>, file: u8) -> [u8; 3]
+    requires { IsReadyPool ⟦<SimDisk as SectorDisk>⟧ store.old }
+    ensures { IsReadyPool ⟦<SimDisk as SectorDisk>⟧ store.new }
+{
+    [
+        byte(rt, store, FilePage { file, page: 0 }),
+        byte(rt, store, FilePage { file, page: 1 }),
+        byte(rt, store, FilePage { file, page: 2 }),
+    ]
+}
+
+/// Those of the first four files.
+fn bytes(rt: &impl Abort, store: &mut PoolStore<SimDisk>) -> [[u8; 3]; 4]
+    requires { IsReadyPool ⟦<SimDisk as SectorDisk>⟧ store.old }
+    ensures { IsReadyPool ⟦<SimDisk as SectorDisk>⟧ store.new }
+{
+    [
+        file_bytes(rt, store, 0),
+        file_bytes(rt, store, 1),
+        file_bytes(rt, store, 2),
+        file_bytes(rt, store, 3),
+    ]
+}
+
+const BEFORE: [[u8; 3]; 4] = [*b"---", *b"aa-", *b"b--", *b"---"];
+
+const AFTER: [[u8; 3]; 4] = [*b"abc", *b"afd", *b"---", *b"e--"];
+
+/// The bytes of the files that a stop leaves, with these bytes in each unsynced sector, or else those that were last synced.
+fn found(
+    rt: &(impl AllocGlobal + Abort),
+    disk: &SimDisk,
+    filling: Option<[u8; 512]>,
+) -> [[u8; 3]; 4] {
+    let mut store = opened(rt, left(rt, disk, filling));
+    bytes(rt, &mut store)
+}
+
+/// One call of the commit fails, and the sectors that are unsynced then have their old bytes or ones.
+fn fails(rt: &(impl AllocGlobal + Abort), disk: &SimDisk, call: u64) {
+    let mut failing = left(rt, disk, None);
+    failing.fail_at(call);
+    let mut store = opened(rt, failing);
+    equal(
+        rt,
+        change(rt, &mut store, b"abcdef"),
+        Err(CommitFault::Device),
+    );
+    for filling in [None, Some([255; 512])] {
+        let left = found(rt, &store.disk, filling);
+        expect(rt, left == BEFORE || left == AFTER, "files of two commits");
+    }
+}
+
+#[test]
+fn files_change_with_their_pages_all_at_once(rt: HostRuntime) {
+    let disk = left(&rt, &made(&rt), None);
+    equal(&rt, found(&rt, &disk, None), BEFORE);
+    let mut store = opened(&rt, left(&rt, &disk, None));
+    let first = store.disk.calls();
+    equal(&rt, change(&rt, &mut store, b"abcdef"), Ok(()));
+    let last = store.disk.calls();
+    equal(&rt, found(&rt, &store.disk, None), AFTER);
+    let step = last.saturating_sub(first) / 12;
+    for back in 0..12 {
+        fails(&rt, &disk, last.saturating_sub(step.saturating_mul(back)));
+    }
+}
+
+#[test]
+fn a_source_that_fails_leaves_the_files_before(rt: HostRuntime) {
+    let mut store = opened(&rt, made(&rt));
+    let done = change(&rt, &mut store, b"ab!def");
+    equal(&rt, done, Err(CommitFault::Source));
+    equal(&rt, found(&rt, &store.disk, Some([255; 512])), BEFORE);
+}
