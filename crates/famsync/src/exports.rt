@@ -1,5 +1,5 @@
 //! What C programs call. `image` is what the file holds, a sector a row, and is never written here. After the result 0 of
-//! `famsync_open`, `famsync_commit` or `famsync_tidy` the first `used` of `calls`, the plan, have to be made of the file, in their order, and
+//! `famsync_open`, `famsync_commit`, `famsync_resize` or `famsync_tidy` the first `used` of `calls`, the plan, have to be made of the file, in their order, and
 //! then `famsync_done` is called, or `famsync_failed` where one of them failed. After any other result there is nothing to
 //! do. `Call` of `sync_plans` says what each call is: some name a page of the commit, which stays as it is until they are
 //! made. `scratch_calls` and `scratch_rows` are room to work in: nothing is said of what they hold. A plan has no more calls than the shortest of
@@ -17,16 +17,19 @@ ghost use Rattle.pool_journal.specs.Pools.{pool_named};
 ghost use Rattle.pool_store.specs.Resume.{HasPoolHead};
 ghost use Rattle.stores.specs.Commit.{ArePages};
 ghost use Rattle.stores.specs.Images.{is_pool, capacity_pages, file_info, IsBadLayout, IsClosed, StandsFor, StandsForEither};
-ghost use Rattle.famsync.specs.Codes.{done, out_of_turn, bad_layout, bad_journal, bad_pages, read_only, no_room, no_memory, closed, ready, pending};
+ghost use Rattle.famsync.specs.Codes.{RefusesResizing, done, out_of_turn, bad_layout, bad_journal, bad_pages, read_only, no_room, no_memory, closed, ready, pending};
 ghost use Rattle.sync_plans.specs.Pages.{lent_page};
 ghost use Rattle.sync_plans.specs.Plans.{row, room_of, AreCalls, AreSources, image_after, IsLeftUnsynced, StopLeaves};
+ghost use Rattle.sync_plans.specs.Resizing.{PlansResizing};
 ghost use Rattle.sync_plans.specs.Requests.{IsStore, HasBadJournal, KeepsOutside, AreWritable, AreReadOnly};
 
-use crate::codes::{BAD_PAGES, CLOSED, OK, PENDING, READY, TURN, number};
+use crate::codes::{BAD_PAGES, CLOSED, OK, PENDING, READY, TURN, number, number_of_resizing};
 use crate::handle::Handle;
+use pool_growth::FileSize;
 use std::alloc::Global;
 use sync_plans::{
-    Call, PageBytes, PageUpdates, Scratch, file_facts, plan_commit, plan_open, plan_tidy, read_page,
+    Call, PageBytes, PageUpdates, Scratch, SizeUpdates, file_facts, plan_commit, plan_open,
+    plan_resize, plan_tidy, read_page,
 };
 use vm_types::FilePage;
 
@@ -84,8 +87,8 @@ pub extern "C" fn famsync_open(
 
 /// Plans that these pages become durable all at once: page `pages[i]` becomes the bytes at `bytes[i]`, with zeros past its
 /// file's end. There is at least one page, and there are no more than the store takes: 1,023 of layout 2, of layout 4 as many as its pool has slots, where
-/// all pages are brought home first if fewer of them are free; none comes twice, and each begins inside its file. They best come in rising order, by file and then by page: the time that a plan takes then
-/// grows as the plan does. Returns 0, and the handle is pending then; 1 exactly where the handle is not ready; 2 to 7 as in `codes`. After another
+/// all pages are brought home first if fewer of them are free; none comes twice, and each begins inside its file. No order of the pages makes a plan longer; in rising order, by file
+/// and then by page, the time that it takes grows as the plan does. Returns 0, and the handle is pending then; 1 exactly where the handle is not ready; 2 to 7 as in `codes`. After another
 /// result than 0 the plan is empty and the handle as it was.
 #[unsafe(no_mangle)]
 pub extern "C" fn famsync_commit(
@@ -202,6 +205,54 @@ pub extern "C" fn famsync_tidy(
             OK
         }
         Err(refusal) => number(refusal),
+    }
+}
+
+/// Plans that files get these sizes, and pages of theirs become durable with that, all at once: of an image of layout 4. `bytes` has first each new page, which is one
+/// behind the last that its file had, in the order of the sizes, and then page `pages[i]`; each with zeros past its file's end then. The sizes rise by file, the pages by
+/// file and page; these are pages of their files before and after, and have among them the last page of a file that gets longer, where it was not full.
+/// Returns 0, and the handle is pending then; 1 exactly where the handle is not ready; 4 to 9 as in `codes`. After another result than 0 the plan is empty and the
+/// handle as it was.
+#[unsafe(no_mangle)]
+pub extern "C" fn famsync_resize(
+    handle: &mut Handle,
+    alloc: Global,
+    image: &[[u8; 512]],
+    scratch_calls: &mut [Call],
+    scratch_rows: &mut [[u8; 512]],
+    used: &mut usize,
+    calls: &mut [Call],
+    rows: &mut [[u8; 512]],
+    sizes: &[FileSize],
+    pages: &[FilePage],
+    bytes: &[PageBytes<'_>],
+) -> u32
+    ensures resizes { result ≡ done → PlansResizing image.now (room_of scratch_calls.old scratch_rows.old calls.old rows.old) sizes.now pages.now (length bytes.now) (lent_page bytes.now) calls.new rows.new used.new }
+    ensures state { result ≡ done → (handle.old.state ≡ ready) × (handle.new.state ≡ pending) }
+    ensures nothing { result ≢ done → (used.new ≡ 0) × (handle.new ≡ handle.old) }
+    ensures turn { result ≡ out_of_turn ↔ handle.old.state ≢ ready }
+    ensures refused { handle.old.state ≡ ready → result ≢ done → RefusesResizing image.now (room_of scratch_calls.old scratch_rows.old calls.old rows.old) sizes.now pages.now (length bytes.now) calls.new result }
+{
+    *used = 0;
+    if handle.state != READY {
+        return TURN;
+    }
+    let scratch = Scratch {
+        calls: scratch_calls,
+        rows: scratch_rows,
+    };
+    let updates = SizeUpdates {
+        sizes,
+        pages,
+        bytes,
+    };
+    match plan_resize(alloc, image, scratch, calls, rows, updates) {
+        Ok(count) => {
+            *used = count;
+            handle.state = PENDING;
+            OK
+        }
+        Err(refusal) => number_of_resizing(refusal),
     }
 }
 

@@ -53,7 +53,7 @@ fn the_shortest_list_is_the_room(rt: HostRuntime) {
 #[test]
 fn the_largest_plan_of_a_journal_is_short(rt: HostRuntime) {
     let mut files = [zeros(1023 * 4096, false)];
-    let mut disk = made(&rt, NewStore::Journal, &mut files);
+    let mut disk = made(&rt, NewStore::Journal, &mut files, 0);
     let mut client = Client::new(&rt);
     let mut pages = Vec::new(rt.alloc());
     for page in 0..1023 {

@@ -8,7 +8,8 @@ use std::fmt::Debug;
 use std::process::Abort;
 use stores::{NewStore, format, image_bytes};
 use sync_plans::{
-    Call, PageBytes, PageUpdates, Refusal, Scratch, file_facts, plan_commit, plan_open, plan_tidy,
+    Call, PageBytes, PageUpdates, Refusal, ResizeRefusal, Scratch, SizeUpdates, file_facts,
+    plan_commit, plan_open, plan_resize, plan_tidy, read_page,
 };
 use vm_types::FilePage;
 
@@ -22,14 +23,6 @@ pub(crate) fn expect(rt: &impl Abort, holds: bool, otherwise: &str) {
     assert!(rt; holds, "{otherwise}");
 }
 
-/// All pages, and how long their files are: one of 5,000 bytes, one of a byte that may only be read, and one of 4,096 bytes.
-pub(crate) const PLACES: [(FilePage, u32); 4] = [
-    (FilePage { file: 0, page: 0 }, 5000),
-    (FilePage { file: 0, page: 1 }, 5000),
-    (FilePage { file: 1, page: 0 }, 1),
-    (FilePage { file: 2, page: 0 }, 4096),
-];
-
 /// A file of zeros.
 pub(crate) fn zeros(length: u32, read_only: bool) -> FileSource<&'static [u8]> {
     FileSource {
@@ -39,26 +32,27 @@ pub(crate) fn zeros(length: u32, read_only: bool) -> FileSource<&'static [u8]> {
     }
 }
 
-/// A device with a new store of these files.
+/// A device with a new store of these files, and with so many homes more.
 pub(crate) fn made(
     rt: &(impl AllocGlobal + Abort),
     store: NewStore,
     files: &mut [FileSource<&'static [u8]>],
+    homes: u32,
 ) -> SimDisk
     requires { IsSizedNew store }
 {
-    let sectors = image_bytes(store, files) / 512;
+    let sectors = image_bytes(store, files) / 512 + 8 * u64::from(homes);
     let mut disk = SimDisk::new(rt.alloc(), sectors).expect(rt, "memory");
     format(&mut disk, store, files).expect(rt, "a store");
     disk
 }
 
-/// A new store of the files of `PLACES`, all zeros.
+/// A new store of three files of zeros: one of 5,000 bytes, one of a byte that may only be read, and one of 4,096 bytes.
 pub(crate) fn new_store(rt: &(impl AllocGlobal + Abort), store: NewStore) -> SimDisk
     requires { IsSizedNew store }
 {
     let mut files = [zeros(5000, false), zeros(1, true), zeros(4096, false)];
-    made(rt, store, &mut files)
+    made(rt, store, &mut files, 0)
 }
 
 /// What a device holds, a sector a row.
@@ -183,6 +177,30 @@ pub(crate) enum Request<'a> {
     Commit(&'a [FilePage], &'a [PageBytes<'a>]),
 }
 
+/// What is seen of a file: how long it is, where it is there, and of each of its first pages the byte that fills it as far as it lies inside the
+/// file.
+#[derive(Clone, Copy, Debug, PartialEq, Eq)]
+pub(crate) struct Seen {
+    pub(crate) length: Option<u32>,
+    pub(crate) bytes: [u8; 5],
+}
+
+/// No file.
+pub(crate) const NO_FILE: Seen = Seen {
+    length: None,
+    bytes: [0; 5],
+};
+
+/// Whether a page has so many times its first byte, and zeros behind.
+fn is_filled(page: &[u8; 4096], inside: usize) -> bool {
+    for at in 0..4096 {
+        if page[at] != if at < inside { page[0] } else { 0 } {
+            return false;
+        }
+    }
+    true
+}
+
 /// Room for plans.
 #[derive(Drop)]
 pub(crate) struct Client {
@@ -195,6 +213,11 @@ pub(crate) struct Client {
 impl Client {
     pub(crate) fn new(rt: &(impl AllocGlobal + Abort)) -> Client {
         Client::with_room(rt, [[ROOM; 2]; 2])
+    }
+
+    /// With room for short plans.
+    pub(crate) fn small(rt: &(impl AllocGlobal + Abort)) -> Client {
+        Client::with_room(rt, [[64; 2]; 2])
     }
 
     /// With so many places for calls and for rows to work in, and for those of a plan.
@@ -230,48 +253,77 @@ impl Client {
         Ok(self.plan.used)
     }
 
-    /// The byte that fills a page up to its file's end, which is where it has to be.
-    pub(crate) fn byte_of(
+    /// Plans that files get these sizes, and returns how many calls the plan has.
+    pub(crate) fn resize(
         &mut self,
         image: &[[u8; 512]],
-        page: FilePage,
-        length: u32,
-    ) -> Result<Option<u8>, Refusal> {
-        let info = file_facts(self.alloc, image, self.scratch.lent(), page.file)?;
-        match info {
-            Some(info) if info.length == length => {}
-            _ => return Ok(None),
-        }
-        let mut bytes = [0; 4096];
-        sync_plans::read_page(self.alloc, image, self.scratch.lent(), page, &mut bytes)?;
-        let inside = length.saturating_sub(page.page.saturating_mul(4096)) as usize;
-        for at in 0..4096 {
-            let wanted = if at < inside { bytes[0] } else { 0 };
-            if bytes[at] != wanted {
-                return Ok(None);
-            }
-        }
-        Ok(Some(bytes[0]))
+        updates: SizeUpdates<'_>,
+    ) -> Result<usize, ResizeRefusal> {
+        let scratch = self.scratch.lent();
+        let calls = self.plan.calls.as_mut_slice();
+        let rows = self.plan.rows.as_mut_slice();
+        let answer = plan_resize(self.alloc, image, scratch, calls, rows, updates);
+        self.plan.used = match answer {
+            Ok(used) => used,
+            Err(_) => 0,
+        };
+        answer
     }
 
-    /// Opens what a device holds, and returns the bytes that fill all pages.
+    /// The byte that fills a page as far as it lies inside its file, so many bytes. Behind them it is zeros.
+    pub(crate) fn byte(
+        &mut self,
+        rt: &impl Abort,
+        image: &[[u8; 512]],
+        page: FilePage,
+        inside: usize,
+    ) -> u8 {
+        let mut bytes = [255; 4096];
+        let read = read_page(self.alloc, image, self.scratch.lent(), page, &mut bytes);
+        read.expect(rt, "a page");
+        expect(rt, is_filled(&bytes, inside), "a page of other bytes");
+        bytes[0]
+    }
+
+    /// What is seen of a file.
+    fn seen(&mut self, rt: &impl Abort, image: &[[u8; 512]], file: u8) -> Seen {
+        let mut seen = NO_FILE;
+        let info = file_facts(self.alloc, image, self.scratch.lent(), file);
+        if let Some(info) = info.expect(rt, "a store") {
+            seen.length = Some(info.length);
+            for page in 0..5 {
+                let inside = info.bytes_inside(page);
+                if inside > 0 {
+                    let place = FilePage { file, page };
+                    seen.bytes[page as usize] = self.byte(rt, image, place, inside);
+                }
+            }
+        }
+        seen
+    }
+
+    /// What is seen of the first files.
+    pub(crate) fn files(&mut self, rt: &impl Abort, image: &[[u8; 512]]) -> [Seen; 4] {
+        [
+            self.seen(rt, image, 0),
+            self.seen(rt, image, 1),
+            self.seen(rt, image, 2),
+            self.seen(rt, image, 3),
+        ]
+    }
+
+    /// Opens what a device holds, and returns what is seen of the first files then.
     pub(crate) fn opened(
         &mut self,
         rt: &(impl AllocGlobal + Abort),
         disk: &mut SimDisk,
-    ) -> [u8; 4] {
+    ) -> [Seen; 4] {
         let image = rows_of(rt, disk);
         let calls = self.ask(image.as_slice(), Request::Open);
         let calls = calls.expect(rt, "a store");
         let is_open = carry_out(disk, &self.plan, &[], 0, calls);
         expect(rt, is_open, "an opening that can't be carried out");
         let image = rows_of(rt, disk);
-        let mut found = [0; 4];
-        for i in 0..4 {
-            let (page, length) = PLACES[i];
-            let read = self.byte_of(image.as_slice(), page, length);
-            found[i] = read.ok().flatten().expect(rt, "a page of one byte");
-        }
-        found
+        self.files(rt, image.as_slice())
     }
 }

@@ -8,4 +8,6 @@ mod client;
 #[cfg(test)]
 mod pools;
 #[cfg(test)]
+mod resizing;
+#[cfg(test)]
 mod stops;

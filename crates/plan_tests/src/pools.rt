@@ -1,11 +1,12 @@
-//! Plans of commits of many pages, and of homes at idle, for stores of layout 4.
+//! Plans of commits and resizes of many pages, and of homes at idle, for stores of layout 4.
 ghost use Rattle.directories.specs.Kinds.{IsMapSize};
 
 use super::client::{Client, Request, carry_out, equal, expect, lent_of, made, rows_of, zeros};
 use disk_model::SimDisk;
+use pool_growth::FileSize;
 use std::process::Abort;
 use stores::NewStore;
-use sync_plans::{PageBytes, Refusal};
+use sync_plans::{PageBytes, Refusal, ResizeRefusal, SizeUpdates};
 use vm_types::FilePage;
 
 /// How many pages the file has. It ends with the last of them.
@@ -25,7 +26,7 @@ impl Bench {
     {
         let mut files = [zeros(PAGES * 4096, false)];
         Bench {
-            disk: made(rt, NewStore::Pool(blocks), &mut files),
+            disk: made(rt, NewStore::Pool(blocks), &mut files, 0),
             client: Client::new(rt),
         }
     }
@@ -53,18 +54,54 @@ impl Bench {
     ) {
         let image = rows_of(rt, &self.disk);
         let answer = self.client.ask(image.as_slice(), request);
+        self.carry_plan(rt, answer.ok(), lent, wanted);
+    }
+
+    /// Carries out a plan, which has so many calls.
+    fn carry_plan(
+        &mut self,
+        rt: &impl Abort,
+        calls: Option<usize>,
+        lent: &[PageBytes<'_>],
+        wanted: [usize; 4],
+    ) {
         let plan = &self.client.plan;
-        equal(rt, (answer, plan.counts()), (Ok(plan.used), wanted));
+        equal(rt, (calls, plan.counts()), (Some(plan.used), wanted));
         let is_done = carry_out(&mut self.disk, plan, lent, 0, plan.used);
         expect(rt, is_done, "a plan that can't be carried out");
     }
 
-    /// The byte that fills a page.
-    fn byte_of(&mut self, rt: &(impl AllocGlobal + Abort), page: u32) -> Option<u8> {
+    /// Plans that the file is cut or gets longer, with these pages of bytes for pages that it has.
+    fn resize(
+        &mut self,
+        rt: &(impl AllocGlobal + Abort),
+        count: u32,
+        pages: &[FilePage],
+        bytes: &[PageBytes<'_>],
+    ) -> Result<usize, ResizeRefusal> {
         let image = rows_of(rt, &self.disk);
-        let place = FilePage { file: 0, page };
-        let byte = self.client.byte_of(image.as_slice(), place, PAGES * 4096);
-        byte.expect(rt, "a page")
+        let size = FileSize {
+            file: 0,
+            is_there: 1,
+            length: count.saturating_mul(4096),
+        };
+        let updates = SizeUpdates {
+            sizes: &[size],
+            pages,
+            bytes,
+        };
+        self.client.resize(image.as_slice(), updates)
+    }
+
+    /// The byte that fills a page of the file.
+    fn byte_of(&mut self, rt: &(impl AllocGlobal + Abort), page: u32) -> u8 {
+        self.byte_at(rt, FilePage { file: 0, page })
+    }
+
+    /// The byte that fills a page.
+    fn byte_at(&mut self, rt: &(impl AllocGlobal + Abort), page: FilePage) -> u8 {
+        let image = rows_of(rt, &self.disk);
+        self.client.byte(rt, image.as_slice(), page, 4096)
     }
 }
 
@@ -87,6 +124,15 @@ fn pages_of(rt: &(impl AllocGlobal + Abort), byte: u8, count: u32) -> Vec<[u8; 4
     pages
 }
 
+/// So many pages, each of a byte of its own.
+fn numbered_pages(rt: &(impl AllocGlobal + Abort), count: u8) -> Vec<[u8; 4096]> {
+    let mut pages = Vec::new(rt.alloc());
+    for byte in 1..=count {
+        pages.push([byte; 4096]).expect(rt, "memory");
+    }
+    pages
+}
+
 // Maps have three blocks, and 1,100 slots are named in the third one too. A block takes eight rows, and the gate one.
 #[test]
 fn each_page_in_rising_order_takes_a_call(rt: HostRuntime) {
@@ -95,23 +141,47 @@ fn each_page_in_rising_order_takes_a_call(rt: HostRuntime) {
     let pages = first_pages(&rt, PAGES);
     let bytes = Vec::from_elem(rt.alloc(), [9; 4096], pages.len()).expect(&rt, "memory");
     bench.commit(&rt, pages.as_slice(), bytes.as_slice(), [25, 2, 1100, 0]);
-    equal(&rt, bench.byte_of(&rt, 1099), Some(9));
+    equal(&rt, bench.byte_of(&rt, 1099), 9);
     // An opening writes the map anew.
     bench.carry(&rt, Request::Open, &[], [25, 2, 0, 0]);
     let page = FilePage { file: 0, page: 555 };
     bench.commit(&rt, &[page], &[[8; 4096]], [25, 2, 1, 0]);
-    equal(&rt, bench.byte_of(&rt, 555), Some(8));
-    equal(&rt, bench.byte_of(&rt, 1099), Some(9));
+    equal(&rt, bench.byte_of(&rt, 555), 8);
+    equal(&rt, bench.byte_of(&rt, 1099), 9);
 }
 
-// Each is written by eight calls, with a row each.
+// Pages are written in the order of their homes: the second of these first.
 #[test]
-fn pages_in_another_order_take_rows(rt: HostRuntime) {
+fn a_page_out_of_order_takes_a_call(rt: HostRuntime) {
     let mut bench = Bench::new(&rt, 1);
     let [low, high] = [3, 5].map(|page| FilePage { file: 0, page });
-    bench.commit(&rt, &[high, low], &[[5; 4096], [3; 4096]], [25, 2, 0, 0]);
-    equal(&rt, bench.byte_of(&rt, 3), Some(3));
-    equal(&rt, bench.byte_of(&rt, 5), Some(5));
+    bench.commit(&rt, &[high, low], &[[5; 4096], [3; 4096]], [9, 2, 2, 0]);
+    equal(&rt, bench.byte_of(&rt, 3), 3);
+    equal(&rt, bench.byte_of(&rt, 5), 5);
+}
+
+// Of two files of ten pages the first gets ten more, whose homes lie behind those of the second: so these are the last that a commit of all 30 writes. A growth takes
+// a page of the directory too, of eight rows.
+#[test]
+fn pages_of_a_file_that_grew_take_a_call_each(rt: HostRuntime) {
+    let mut files = [zeros(40960, false), zeros(40960, false)];
+    let mut bench = Bench {
+        disk: made(&rt, NewStore::Pool(1), &mut files, 10),
+        client: Client::new(&rt),
+    };
+    let bytes = numbered_pages(&rt, 10);
+    let lent = lent_of(&rt, bytes.as_slice());
+    let answer = bench.resize(&rt, 20, &[], lent.as_slice());
+    bench.carry_plan(&rt, answer.ok(), lent.as_slice(), [17, 2, 10, 0]);
+    let mut pages = first_pages(&rt, 20);
+    for page in 0..10 {
+        pages.push(FilePage { file: 1, page }).expect(&rt, "memory");
+    }
+    let bytes = numbered_pages(&rt, 30);
+    bench.commit(&rt, pages.as_slice(), bytes.as_slice(), [9, 2, 30, 0]);
+    for (page, bytes) in pages.iter().zip(&bytes) {
+        equal(&rt, bench.byte_at(&rt, *page), bytes[0]);
+    }
 }
 
 // A body has 504 slots: after 1,000 pages the next commit has all others of them copied home. Maps have one block of slots.
@@ -129,7 +199,7 @@ fn pages_go_home_in_a_call_each(rt: HostRuntime) {
         [9, 2, 2, 998],
     );
     for (page, byte) in [(0, 0), (1, 6), (2, 7), (999, 7), (1000, 0)] {
-        equal(&rt, bench.byte_of(&rt, page), Some(byte));
+        equal(&rt, bench.byte_of(&rt, page), byte);
     }
 }
 
@@ -145,7 +215,7 @@ fn a_tidy_brings_all_pages_home_in_two_syncs(rt: HostRuntime) {
     bench.carry(&rt, Request::Tidy, &[], [0; 4]);
     bench.carry(&rt, Request::Open, &[], [0; 4]);
     for (page, byte) in [(0, 1), (1, 2), (2, 3), (3, 0)] {
-        equal(&rt, bench.byte_of(&rt, page), Some(byte));
+        equal(&rt, bench.byte_of(&rt, page), byte);
     }
 }
 
@@ -159,7 +229,7 @@ fn a_commit_of_all_slots_makes_room_itself(rt: HostRuntime) {
         let bytes = pages_of(&rt, byte, 1008);
         bench.commit(&rt, pages.as_slice(), bytes.as_slice(), wanted);
         for (page, byte) in [(0, byte), (1006, 1), (1007, byte), (1008, 0)] {
-            equal(&rt, bench.byte_of(&rt, page), Some(byte));
+            equal(&rt, bench.byte_of(&rt, page), byte);
         }
     }
     let more = first_pages(&rt, 1009);
@@ -169,4 +239,27 @@ fn a_commit_of_all_slots_makes_room_itself(rt: HostRuntime) {
     let request = Request::Commit(more.as_slice(), lent.as_slice());
     let answer = bench.client.ask(image.as_slice(), request);
     equal(&rt, answer, Err(Refusal::BadPages));
+}
+
+// A page of the directory takes a slot too. Where eight are free, a resize with eight pages has all of before brought home first, in two syncs more.
+// Each of the eight is still lent then.
+#[test]
+fn a_resize_makes_room_itself(rt: HostRuntime) {
+    let mut bench = Bench::new(&rt, 1);
+    let pages = first_pages(&rt, 1000);
+    let bytes = Vec::from_elem(rt.alloc(), [7; 4096], 1000).expect(&rt, "memory");
+    bench.commit(&rt, pages.as_slice(), bytes.as_slice(), [9, 2, 1000, 0]);
+    let pages = first_pages(&rt, 8);
+    let bytes = pages_of(&rt, 8, 8);
+    let lent = lent_of(&rt, bytes.as_slice());
+    let answer = bench.resize(&rt, 1050, pages.as_slice(), lent.as_slice());
+    bench.carry_plan(&rt, answer.ok(), lent.as_slice(), [26, 4, 8, 1000]);
+    for (page, byte) in [(0, 8), (1, 1), (7, 1), (8, 7), (999, 7), (1000, 0)] {
+        equal(&rt, bench.byte_of(&rt, page), byte);
+    }
+    let more = first_pages(&rt, 1008);
+    let bytes = pages_of(&rt, 9, 1008);
+    let lent = lent_of(&rt, bytes.as_slice());
+    let answer = bench.resize(&rt, 1049, more.as_slice(), lent.as_slice());
+    equal(&rt, answer, Err(ResizeRefusal::BadPages));
 }

@@ -2,15 +2,38 @@
 ghost use Rattle.stores.specs.NewStores.{IsSizedNew};
 
 use super::client::{
-    Client, PLACES, Plan, Request, carry_out, equal, expect, lent_of, new_store, rows_of,
+    Client, NO_FILE, Plan, Request, Seen, carry_out, equal, expect, lent_of, new_store, rows_of,
 };
-use disk_model::SimDisk;
+use disk_model::{SectorDisk, SimDisk};
 use std::process::Abort;
 use stores::NewStore;
 use sync_plans::PageBytes;
+use vm_types::FilePage;
+
+/// The pages of the files of a new store.
+const PLACES: [FilePage; 4] = [
+    FilePage { file: 0, page: 0 },
+    FilePage { file: 0, page: 1 },
+    FilePage { file: 1, page: 0 },
+    FilePage { file: 2, page: 0 },
+];
+
+/// What is seen of its files where these bytes fill the pages.
+fn filled([first, second, locked, last]: [u8; 4]) -> [Seen; 4] {
+    let seen = |length, bytes| Seen {
+        length: Some(length),
+        bytes,
+    };
+    [
+        seen(5000, [first, second, 0, 0, 0]),
+        seen(1, [locked, 0, 0, 0, 0]),
+        seen(4096, [last, 0, 0, 0, 0]),
+        NO_FILE,
+    ]
+}
 
 /// The device after a stop within a plan. What each unsynced sector holds goes by the number: the old bytes, zeros, ones,
-/// or the words that open the gate, half of them or all.
+/// the words that open the gate, half of them or all, or what was written to it.
 fn left_with(
     rt: &(impl AllocGlobal + Abort),
     disk: &SimDisk,
@@ -31,6 +54,9 @@ fn left_with(
         for call in plan.calls.iter().take(plan.used) {
             for i in 0..8 {
                 let sector = call.sector.saturating_add(i);
+                if number == WRITTEN && sector < disk.sectors() {
+                    filling = *disk.sector(sector);
+                }
                 chosen.push((sector, filling)).expect(rt, "memory");
             }
         }
@@ -39,21 +65,25 @@ fn left_with(
         .expect(rt, "memory")
 }
 
-/// Stops a plan before each of its calls and at its end. The bytes that fill the pages are then the first four or the last: at the
-/// beginning the first, at the end the last.
-fn stopped_everywhere(
+/// The last of these numbers.
+const WRITTEN: usize = 5;
+
+/// Stops a plan before each of its calls and at its end, with so many fillings of the unsynced sectors at least, and with all six where the gate is
+/// unsynced. The files are then seen as they were before or after: at the beginning as before, at the end as after.
+pub(crate) fn stopped_everywhere(
     rt: &(impl AllocGlobal + Abort),
     disk: &SimDisk,
     plan: &Plan,
     lent: &[PageBytes<'_>],
-    [before, after]: [[u8; 4]; 2],
+    [before, after]: [[Seen; 4]; 2],
+    least: usize,
 ) {
-    let mut looker = Client::new(rt);
+    let mut looker = Client::small(rt);
     let mut stopped = left_with(rt, disk, plan, 0);
-    let mut fillings = 1;
+    let mut fillings = least;
     for count in 0..=plan.used {
         for further in 0..fillings {
-            let number = (count % 5 + further % 5) % 5;
+            let number = (count % 6 + further % 6) % 6;
             let mut left = left_with(rt, &stopped, plan, number);
             let files = looker.opened(rt, &mut left);
             let is_old = count < plan.used && files == before;
@@ -62,10 +92,10 @@ fn stopped_everywhere(
         }
         let is_made = carry_out(&mut stopped, plan, lent, count, 1);
         expect(rt, is_made, "a call that can't be made");
-        // All of them where the gate is unsynced, which is sector 2, or 8 where there is a pool.
+        // The gate is sector 2, or 8 where there is a pool.
         fillings = match plan.calls.get(count) {
-            Some(call) if call.kind == 1 && [2, 8].contains(&call.sector) => 5,
-            _ => 1,
+            Some(call) if call.kind == 1 && [2, 8].contains(&call.sector) => 6,
+            _ => least,
         };
     }
 }
@@ -82,18 +112,19 @@ fn committed(
     let (mut pages, mut bytes) = (Vec::new(rt.alloc()), Vec::new(rt.alloc()));
     for i in 0..4 {
         if before[i] != after[i] {
-            pages.push(PLACES[i].0).expect(rt, "memory");
+            pages.push(PLACES[i]).expect(rt, "memory");
             bytes.push([after[i]; 4096]).expect(rt, "memory");
         }
     }
     let lent = lent_of(rt, bytes.as_slice());
     let image = rows_of(rt, disk);
     let request = Request::Commit(pages.as_slice(), lent.as_slice());
-    let mut client = Client::new(rt);
+    let mut client = Client::small(rt);
     let answer = client.ask(image.as_slice(), request);
     let plan = &client.plan;
     equal(rt, (answer, plan.counts()), (Ok(plan.used), wanted));
-    stopped_everywhere(rt, disk, plan, lent.as_slice(), [before, after]);
+    let seen = [filled(before), filled(after)];
+    stopped_everywhere(rt, disk, plan, lent.as_slice(), seen, 1);
     let is_done = carry_out(disk, plan, lent.as_slice(), 0, plan.used);
     expect(rt, is_done, "a plan that can't be carried out");
 }
@@ -129,13 +160,13 @@ fn stopped_in_a_row(
         committed(rt, &mut disk, files, *after, *wanted);
         files = *after;
     }
-    let mut client = Client::new(rt);
+    let mut client = Client::small(rt);
     let image = rows_of(rt, &disk);
     for (request, wanted) in [(Request::Open, calls[0]), (Request::Tidy, calls[1])] {
         let answer = client.ask(image.as_slice(), request);
         let plan = &client.plan;
         equal(rt, (answer, plan.counts()), (Ok(plan.used), wanted));
-        stopped_everywhere(rt, &disk, plan, &[], [files, files]);
+        stopped_everywhere(rt, &disk, plan, &[], [filled(files); 2], 1);
     }
 }
 

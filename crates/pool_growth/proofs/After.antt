@@ -8,13 +8,14 @@ use Rattle.directories.{specs.{Entries.{SaysEntry, entry_bytes}, Homes.{HasHome}
 use Rattle.file_store.{proofs.Pieces.{trimmed-trimmed, length-trimmed}, specs.{Commit.{cut_page}, Layout.{padded_page}, Standing.{IsPageOf}}}
 use Rattle.growth.specs.{Changes.{entry_then}, declared.changes.Change.{Change}}
 use Rattle.pool_growth.proofs.{Cut.{begins_inside, cut_further, cut_inside, entry_counted, home_has, inside_small, is_counted, no_more_inside, page_with_home}, Directory.{are_changed, changed_found, in_front, unchanged, StandsIn}}
+use Rattle.pool_growth.proofs.Ordering.{given_listed, given_new, ArePlacedThen}
 use Rattle.pool_growth.proofs.New.{entry_later, front_not_new, info_later, new_behind, new_found, new_homed, old_not_new}
-use Rattle.pool_growth.specs.{Asked.{entries_then, is_changed, AreFileChanges, changed_pages}, Files.{added_count, files_after, new_page, file_page_count, ChangesFiles, StandsInList, IsNewPage}}
-use Rattle.pool_growth.specs.{Front.{AreChangedPages}, Late.{cut_kept, late_page}, Putting.{cut_new, inside_then, new_home, IsNewHome, LeavesOtherHomes, NewPagesStand}}
+use Rattle.pool_growth.specs.{Asked.{entries_then, is_changed, AreFileChanges, changed_pages}, Files.{added_count, files_after, given_page, new_page, file_page_count, ChangesFiles, StandsInList, IsNewPage}}
+use Rattle.pool_growth.specs.{Front.{AreChangedPages}, Late.{cut_given, late_page}, Putting.{cut_new, inside_then, new_home, IsNewHome, LeavesOtherHomes, NewPagesStand}}
 use Rattle.pool_journal.specs.Pools.{pool, pool_standing}
-use Rattle.pool_store.proofs.{Entries.{entry_stood}, Ordered.{ArePlaced, has_home, home_behind, one_page, page_is}, Standing.{AreAlike, SameHead, bad_moves, entry_same}}
+use Rattle.pool_store.proofs.{Entries.{entry_stood}, Ordered.{page_is}, Standing.{AreAlike, SameHead, bad_moves, entry_same}}
 use Rattle.pool_store.specs.{Files.{StandsFor, StandsAs, info_of, page_of}, Places.{index_at}, Pools.{AreSaid, entry_by, entry_standing, files_in_pool, IsBadPool, IsBadPool.{Unmarked, OtherKind, TooSmall, NoDirectory}}}
-use Rattle.pool_store.specs.{Store.{home_of, info_by, IsDirectoryOn}, declared.{directory.Directory.{Directory}, room.Place.{Place}}}
+use Rattle.pool_store.specs.{Store.{info_by, IsDirectoryOn}, declared.{directory.Directory.{Directory}, room.Place.{Place}}}
 use Rattle.sync_journal.{proofs.Images.{Means, place_means}, specs.{Commit.{changed, sector_or}, Layouts.{IsKept, StandsForPages}, Map.{home_rank}}}
 
 module _ (n : ℕ) (directory : Directory) (on : IsDirectoryOn n directory) (changes : List Change) (are : AreFileChanges n directory changes)
@@ -89,14 +90,13 @@ module _ (n : ℕ) (directory : Directory) (on : IsDirectoryOn n directory) (cha
     same = λ f k inside. page_left image others f k (is_counted (infos f) inside.0 k (files_are files pages was f ∙ inside.1) inside.2) ∙ was.same f k inside;
   }
 
-  -- Where the new pages stand, and the pages of a commit over that:
+  -- Where some new pages stand, and the other pages of a commit over that:
   module _ (list : List FilePage)
-      (before_in : (i : ℕ) (p : FilePage) → slice_get list i ≡ Some p → IsPageOf (info_by directory) p.file p.page)
-      (after_in : (i : ℕ) (p : FilePage) → slice_get list i ≡ Some p → IsPageOf (files_after (info_by directory) changes) p.file p.page)
       (ends : (f : ℕ) (was now : FileInfo) → info_by directory f ≡ Some was → files_after (info_by directory) changes f ≡ Some now → was.length < now.length → (was.length % 4096 ≡ 0 → ⊥) → StandsInList list f (was.length / 4096))
-      (places : List Place) (homes : List ℕ) (placed : ArePlaced directory list places homes) (front : List (List ℕ)) (fronts : AreChangedPages directory changes front)
+      (put : ℕ) (low : put ≤ added_count (info_by directory) changes) (places : List Place) (homes : List ℕ) (placed : ArePlacedThen directory changes list put places homes)
+      (front : List (List ℕ)) (fronts : AreChangedPages directory changes front)
       (given : ℕ → List ℕ) (mid : Image) (beside : LeavesOtherHomes m n (IsNewHome directory changes) old mid)
-      (stand : NewPagesStand m n directory changes given (added_count (info_by directory) changes) mid) where
+      (stand : NewPagesStand m n directory changes given put mid) where
     abbrev late : List ℕ
     late = changed_pages changes directory.pages ++ homes
 
@@ -107,10 +107,10 @@ module _ (n : ℕ) (directory : Directory) (on : IsDirectoryOn n directory) (cha
     added = added_count (info_by directory) changes
 
     abbrev into_slots : ℕ → List ℕ
-    into_slots = late_page directory changes list front places added given
+    into_slots = late_page directory changes list front places put given
 
     abbrev pub After : ℕ → ℕ → List ℕ
-    After = changed (pool_standing m n mid) (changed_pages changes directory.pages ++ homes) (late_page directory changes list front places (added_count (info_by directory) changes) given)
+    After = changed (pool_standing m n mid) (changed_pages changes directory.pages ++ homes) (late_page directory changes list front places put given)
 
     long : length late ≡ count + length homes
     long = length-append (changed_pages changes directory.pages) homes
@@ -118,20 +118,20 @@ module _ (n : ℕ) (directory : Directory) (on : IsDirectoryOn n directory) (cha
     at_behind : (j : ℕ) → get_or late (count + j) 0 ≡ get_or homes j 0
     at_behind j = get_or-append_right (changed_pages changes directory.pages) homes count (count + j) 0 refl (omega arith) ∙ (let back : count + j - count ≡ j = omega arith in ap (λ (i : ℕ). get_or homes i 0) back)
 
-    -- Page h of the homes is in no slot, or in that of a changed page of the directory, or of a page of the list.
+    -- Page h of the homes goes into no slot, or into that of a changed page of the directory, or of a page of a file.
     abbrev IsBeside : ℕ → Type 0
     IsBeside h = (home_rank late h ≡ None) × (StandsIn late h → ⊥)
 
     abbrev IsFront : ℕ → Type 0
     IsFront h = (j : ℕ) × (home_rank late h ≡ Some j) × (j < count) × (get_or (changed_pages changes directory.pages) j 0 ≡ h)
 
-    abbrev IsKeptPage : ℕ → Type 0
-    IsKeptPage h = (j : ℕ) × (home_rank late h ≡ Some (count + j)) × (j < length homes) × (get_or homes j 0 ≡ h)
+    abbrev IsFilePage : ℕ → Type 0
+    IsFilePage h = (j : ℕ) × (home_rank late h ≡ Some (count + j)) × (j < length homes) × (get_or homes j 0 ≡ h)
 
-    where_is : (h : ℕ) → IsBeside h ⊎ (IsFront h ⊎ IsKeptPage h)
+    where_is : (h : ℕ) → IsBeside h ⊎ (IsFront h ⊎ IsFilePage h)
     where_is h = from (home_rank late h) refl (place_means (λ j. get_or late j 0) h (length late))
       where
-        from : (o : Option ℕ) → home_rank late h ≡ o → Means (λ j. get_or late j 0) h (length late) o → IsBeside h ⊎ (IsFront h ⊎ IsKeptPage h)
+        from : (o : Option ℕ) → home_rank late h ≡ o → Means (λ j. get_or late j 0) h (length late) o → IsBeside h ⊎ (IsFront h ⊎ IsFilePage h)
         from None is none = inl (is, λ at. none at.0 at.1 at.2)
         from (Some j) is has = inr (⊎_elim
             (λ less. inl (j, is, less, sym (get_or_append_left (changed_pages changes directory.pages) homes 0 j less) ∙ has.1))
@@ -140,38 +140,47 @@ module _ (n : ℕ) (directory : Directory) (on : IsDirectoryOn n directory) (cha
             inr (j - count, is ∙ ap Some at, omega (arith, has.0, long, past), sym (at_behind (j - count)) ∙ ap (λ (i : ℕ). get_or late i 0) (sym at) ∙ has.1))
             (cases_lt j count))
 
-    -- a home of a changed page is one of the directory, and that of a page of the list is not
+    -- a home of a changed page is one of the directory, and that of a page of a file is not
     front_below : (h : ℕ) → IsFront h → h < directory.pages
     front_below h at = (let each = are_changed changes directory.pages at.0 at.2 in omega (arith, each.0, at.3))
 
-    kept_at : (h : ℕ) (at : IsKeptPage h) → (p : FilePage) × (slice_get list (index_at places at.0) ≡ Some p) × (home_of directory p ≡ Some h)
-    kept_at h at = (let each = placed.each at.0 at.2 in (each.0, each.1, each.2 ∙ ap Some at.3))
+    file_at : (h : ℕ) (at : IsFilePage h) → (p : FilePage) × (given_page infos changes list (put + index_at places at.0) ≡ Some p) × HasHome now_entries p.file p.page h
+    file_at h at = (let each = placed.each at.0 at.2 in (each.0, each.1, subst (HasHome now_entries each.0.file each.0.page) at.3 each.2))
 
-    kept_behind : (h : ℕ) → IsKeptPage h → directory.pages ≤ h
-    kept_behind h at = (let page = kept_at h at in (home_behind n directory on page.0 h page.2).0)
+    file_behind : (h : ℕ) → IsFilePage h → directory.pages ≤ h
+    file_behind h at = (let page = file_at h at in ((gives_homes directory.pages n now_entries are.may.good).within page.0.file page.0.page h page.2).0)
 
     -- the pages that go into slots
     front_page : (j : ℕ) → j < count → into_slots j ≡ get_or front j []
     front_page j below =
         let inside : nat_lt j (length front) ≡ true = grind (arith, below, fronts.long, nat_tests) in
-        cond-true (nat_lt j (length front)) (get_or front j []) (cut_kept directory changes list added given (index_at places (j - length front))) inside
+        cond-true (nat_lt j (length front)) (get_or front j []) (cut_given directory changes list given (put + index_at places (j - length front))) inside
 
-    kept_page : (j : ℕ) → into_slots (count + j) ≡ cut_kept directory changes list added given (index_at places j)
-    kept_page j =
+    file_page : (j : ℕ) → into_slots (count + j) ≡ cut_given directory changes list given (put + index_at places j)
+    file_page j =
         let past : nat_lt (count + j) (length front) ≡ false = grind (arith, fronts.long, nat_tests) in
         let back : count + j - length front ≡ j = omega (arith, fronts.long) in
-        cond-false (nat_lt (count + j) (length front)) (get_or front (count + j) []) (cut_kept directory changes list added given (index_at places (count + j - length front))) past
-        ∙ ap (λ (i : ℕ). cut_kept directory changes list added given (index_at places i)) back
+        cond-false (nat_lt (count + j) (length front)) (get_or front (count + j) []) (cut_given directory changes list given (put + index_at places (count + j - length front))) past
+        ∙ ap (λ (i : ℕ). cut_given directory changes list given (put + index_at places i)) back
 
-    -- a page whose home is none of these is not of the list
-    not_listed : (f k h : ℕ) → HasHome entries f k h → (StandsIn late h → ⊥) → StandsInList list f k → ⊥
-    not_listed f k h has none listed =
-        let found = placed.found listed.0 (slice_get_within list listed.0 listed.1 listed.2) in
+    -- a page whose home is none of these is none of those that a source gives for slots,
+    not_given : (f k h i : ℕ) → HasHome now_entries f k h → (StandsIn late h → ⊥) → put ≤ i → i < added + length list → given_page infos changes list i ≡ Some (record { file = f; page = k }) → ⊥
+    not_given f k h i has none from below is =
+        let found = placed.found (i - put) (omega (arith, from, below)) in
         let each = placed.each found.0 found.1 in
-        let page : each.0 ≡ record { file = f; page = k } =
-        same_Some each.0 listed.1 (sym each.1 ∙ ap (slice_get list) found.2 ∙ listed.2) ∙ page_is listed.1 f k listed.3 listed.4 in
-        let home : get_or homes found.0 0 ≡ h = same_Some (get_or homes found.0 0) h (sym each.2 ∙ ap (home_of directory) page ∙ home_has entries f k h has) in
+        let index : put + index_at places found.0 ≡ i = (let at = found.2 in omega (arith, at, from)) in
+        let page : each.0 ≡ record { file = f; page = k } = same_Some each.0 (record { file = f; page = k }) (sym each.1 ∙ ap (given_page infos changes list) index ∙ is) in
+        let its : HasHome now_entries f k (get_or homes found.0 0) = subst (λ (p : FilePage). HasHome now_entries p.file p.page (get_or homes found.0 0)) page each.2 in
+        let home : get_or homes found.0 0 ≡ h = same_Some (get_or homes found.0 0) h (sym (home_has now_entries f k (get_or homes found.0 0) its) ∙ home_has now_entries f k h has) in
         none (count + found.0, (let less = found.1 in omega (arith, long, less)), at_behind found.0 ∙ home)
+
+    -- and so it is not of the list,
+    not_listed : (f k h : ℕ) → HasHome now_entries f k h → (StandsIn late h → ⊥) → StandsInList list f k → ⊥
+    not_listed f k h has none listed =
+        let inside = slice_get_within list listed.0 listed.1 listed.2 in
+        let back : added + listed.0 - added ≡ listed.0 = omega arith in
+        not_given f k h (added + listed.0) has none (omega (arith, low)) (omega (arith, inside))
+        (given_listed infos changes list (added + listed.0) (omega arith) ∙ ap (slice_get list) back ∙ listed.2 ∙ ap Some (page_is listed.1 f k listed.3 listed.4))
 
     -- nor is a page that was one a new one
     not_new : (f k : ℕ) → k < file_page_count (infos f) → IsNewPage infos changes f k → ⊥
@@ -216,7 +225,7 @@ module _ (n : ℕ) (directory : Directory) (on : IsDirectoryOn n directory) (cha
           let place : f % 16 < 16 = omega arith in
           subst (λ (bytes : List ℕ). SaysEntry (entry_bytes bytes (f % 16)) (entry_in now_entries f)) (sym stands)
           (subst (λ (g : ℕ). SaysEntry (entry_bytes (get_or front at.0 []) (f % 16)) (entry_in now_entries g)) number (page.says (f % 16) place)))
-          (λ (at : IsKeptPage (f / 16)). (let from = kept_behind (f / 16) at in absurd (omega (arith, inside, from)))))
+          (λ (at : IsFilePage (f / 16)). (let from = file_behind (f / 16) at in absurd (omega (arith, inside, from)))))
           (where_is (f / 16))
 
       -- and in one that is as before, where no change touches them
@@ -231,7 +240,7 @@ module _ (n : ℕ) (directory : Directory) (on : IsDirectoryOn n directory) (cha
           subst (λ (b : List ℕ). SaysEntry b (entry_in now_entries f)) (sym bytes) (subst (SaysEntry (entry_standing stood f)) (sym entry) (said f below)))
           (⊎_elim
           (λ (at : IsFront (f / 16)). absurd (true≢false (sym (are_changed changes directory.pages at.0 at.2).1 ∙ ap (is_changed changes) at.3 ∙ same)))
-          (λ (at : IsKeptPage (f / 16)). (let from = kept_behind (f / 16) at in absurd (omega (arith, inside, from)))))
+          (λ (at : IsFilePage (f / 16)). (let from = file_behind (f / 16) at in absurd (omega (arith, inside, from)))))
           (where_is (f / 16))
 
       pub said_then : AreSaid directory.pages left now_entries
@@ -263,7 +272,7 @@ module _ (n : ℕ) (directory : Directory) (on : IsDirectoryOn n directory) (cha
           let small : inside_of (later f) k ≤ 4096 = inside_small (later f) k in
           page_now f k h has ∙ ap (padded_page (inside_of (later f) k)) is ∙ trimmed-trimmed (inside_of (later f) k) bytes small ∙ sym (cut_inside (later f) info k bytes there)
 
-      module _ (before after : ℕ → ℕ → List ℕ) (was : StandsFor (files_in_pool m directory.pages n) sectors infos before old) (put : ChangesFiles infos changes list given before after) where
+      module _ (before after : ℕ → ℕ → List ℕ) (was : StandsFor (files_in_pool m directory.pages n) sectors infos before old) (becomes : ChangesFiles infos changes list given before after) where
         -- no more of a page that was one lies inside its file than before, unless it is of the list: the last one of a file that gets longer is
         inside_before : (f k : ℕ) → k < file_page_count (infos f) → k < file_page_count (later f) → (StandsInList list f k → ⊥) → inside_of (later f) k ≤ inside_of (infos f) k
         inside_before f k there here none =
@@ -287,63 +296,75 @@ module _ (n : ℕ) (directory : Directory) (on : IsDirectoryOn n directory) (cha
         unlisted f k h there here has at =
             let a = begins_inside (infos f) k there in
             let b = begins_inside (later f) k here in
-            let none : StandsInList list f k → ⊥ = λ listed. not_listed f k h has at.1 listed in
+            let none : StandsInList list f k → ⊥ = λ listed. not_listed f k h (are.keeps f k h there here has) at.1 listed in
             let less = inside_before f k there here none in
             page_now f k h (are.keeps f k h there here has)
             ∙ ap (padded_page (inside_of (later f) k)) (joined-same 8 (left h) (stood h) (as_before h at (no_new f k h there has)))
             ∙ sym (cut_further (inside_of (later f) k) (inside_of (infos f) k) (joined (stood h) 8) less (inside_small (infos f) k))
             ∙ ap (padded_page (inside_of (later f) k)) (sym (page_stood f k h has) ∙ was.same f k (a.0, a.1, a.2))
-            ∙ sym (put.others f k (λ new. not_new f k there new) none ∙ cut_inside (later f) b.0 k (before f k) b.1)
+            ∙ sym (becomes.others f k (λ new. not_new f k there new) none ∙ cut_inside (later f) b.0 k (before f k) b.1)
 
-        -- of the list: as given
-        listed : (f k h : ℕ) → k < file_page_count (infos f) → k < file_page_count (later f) → HasHome entries f k h → IsKeptPage h → page_of left k (entry_by directory.pages left f) ≡ after f k
-        listed f k h there here has at =
+        -- what a source gives is what becomes of its page
+        put_given : (i : ℕ) (p : FilePage) → given_page infos changes list i ≡ Some p → after p.file p.page ≡ cut_page (later p.file) p.page (given i)
+        put_given i p is = ⊎_elim
+            (λ new. becomes.added i p (sym (given_new infos changes list i new) ∙ is))
+            (λ past.
+            let back : added + (i - added) ≡ i = omega (arith, past) in
+            becomes.listed (i - added) p (sym (given_listed infos changes list i past) ∙ is) ∙ ap (λ (j : ℕ). cut_page (later p.file) p.page (given j)) back)
+            (cases_lt i added)
+
+        -- in a slot: as given
+        slotted : (f k h : ℕ) → k < file_page_count (later f) → HasHome now_entries f k h → IsFilePage h → page_of left k (entry_by directory.pages left f) ≡ after f k
+        slotted f k h here has at =
             let b = begins_inside (later f) k here in
-            let i : ℕ = index_at places at.0 in
             let page : FilePage = record { file = f; page = k } in
-            let one = kept_at h at in
-            let got : slice_get list i ≡ Some page = one.1 ∙ ap Some (one_page n directory on one.0 page h one.2 (home_has entries f k h has)) in
-            let bytes : into_slots (count + at.0) ≡ padded_page (inside_of (later f) k) (given (added + i)) =
-            kept_page at.0 ∙ ap (λ (o : Option FilePage). padded_page (inside_then directory changes o) (given (added + i))) got in
-            let whole : length (padded_page (inside_of (later f) k) (given (added + i))) ≡ 4096 = length-trimmed (inside_of (later f) k) (given (added + i)) (inside_small (later f) k) in
-            page_given f k h (given (added + i)) (are.keeps f k h there here has) (in_slot h (count + at.0) (padded_page (inside_of (later f) k) (given (added + i))) at.1 bytes whole) b.0 b.1
-            ∙ sym (put.listed i page got)
+            let i : ℕ = put + index_at places at.0 in
+            let one = file_at h at in
+            let same = (gives_homes directory.pages n now_entries are.may.good).apart one.0.file one.0.page f k h one.2 has in
+            let got : given_page infos changes list i ≡ Some page = one.1 ∙ ap Some (page_is one.0 f k same.0 same.1) in
+            let bytes : into_slots (count + at.0) ≡ padded_page (inside_of (later f) k) (given i) =
+            file_page at.0 ∙ ap (λ (o : Option FilePage). padded_page (inside_then directory changes o) (given i)) got in
+            let whole : length (padded_page (inside_of (later f) k) (given i)) ≡ 4096 = length-trimmed (inside_of (later f) k) (given i) (inside_small (later f) k) in
+            page_given f k h (given i) has (in_slot h (count + at.0) (padded_page (inside_of (later f) k) (given i)) at.1 bytes whole) b.0 b.1
+            ∙ sym (put_given i page got)
+
+        -- of no slot, and new: as it was put
+        unslotted : (f k i : ℕ) → i < put → new_page infos changes i ≡ Some (record { file = f; page = k }) → k < file_page_count (later f) → HasHome now_entries f k (new_home directory changes i)
+            → IsBeside (new_home directory changes i) → page_of left k (entry_by directory.pages left f) ≡ after f k
+        unslotted f k i below is here has at =
+            let b = begins_inside (later f) k here in
+            let h : ℕ = new_home directory changes i in
+            let bytes : cut_new directory changes given i ≡ padded_page (inside_of (later f) k) (given i) = ap (λ (o : Option FilePage). padded_page (inside_then directory changes o) (given i)) is in
+            let whole : length (cut_new directory changes given i) ≡ 4096 = ap length bytes ∙ length-trimmed (inside_of (later f) k) (given i) (inside_small (later f) k) in
+            page_given f k h (given i) has (in_parts h (cut_new directory changes given i) (λ j small. left_by h j None small at.0 ∙ stand i j below small) whole ∙ bytes) b.0 b.1
+            ∙ sym (becomes.added i (record { file = f; page = k }) is)
+
+        -- a page with a home that is there then, and in no slot, or in one
+        by_home : (f k h : ℕ) → k < file_page_count (later f) → HasHome now_entries f k h → (IsBeside h → page_of left k (entry_by directory.pages left f) ≡ after f k)
+            → page_of left k (entry_by directory.pages left f) ≡ after f k
+        by_home f k h here has none =
+            let behind = (gives_homes directory.pages n now_entries are.may.good).within f k h has in
+            ⊎_elim none
+            (⊎_elim
+            (λ (at : IsFront h). (let below = front_below h at in absurd (omega (arith, below, behind.0))))
+            (λ (at : IsFilePage h). slotted f k h here has at))
+            (where_is h)
 
         old_page : (f k : ℕ) → k < file_page_count (infos f) → k < file_page_count (later f) → page_of left k (entry_by directory.pages left f) ≡ after f k
         old_page f k there here =
-            let has = had_home f k there in
-            let behind = (gives_homes directory.pages n entries on.good).within f k has.0 has.1 in
-            ⊎_elim
-            (λ (at : IsBeside has.0). unlisted f k has.0 there here has.1 at)
-            (⊎_elim
-            (λ (at : IsFront has.0). (let below = front_below has.0 at in absurd (omega (arith, below, behind.0))))
-            (λ (at : IsKeptPage has.0). listed f k has.0 there here has.1 at))
-            (where_is has.0)
-
-        -- a new one: as given, since none of those that go into slots has its home
-        new_beside : (h : ℕ) (new : IsNewHome directory changes h) → IsBeside h
-        new_beside h new = ⊎_elim
-            (λ at. at)
-            (⊎_elim
-            (λ (at : IsFront h). absurd (no_new_in_front h (front_below h at) new))
-            (λ (at : IsKeptPage h).
-            let one = kept_at h at in
-            let inside = before_in (index_at places at.0) one.0 one.1 in
-            absurd (no_new one.0.file one.0.page h (is_counted (infos one.0.file) inside.0 one.0.page inside.1 inside.2) (has_home directory one.0 h one.2) new)))
-            (where_is h)
+            let had = had_home f k there in
+            by_home f k had.0 here (are.keeps f k had.0 there here had.1) (λ at. unlisted f k had.0 there here had.1 at)
 
         put_new : (f k i : ℕ) → i < added → new_page infos changes i ≡ Some (record { file = f; page = k }) → k < file_page_count (later f) → page_of left k (entry_by directory.pages left f) ≡ after f k
         put_new f k i below is here =
-            let b = begins_inside (later f) k here in
             let h : ℕ = new_home directory changes i in
             let page : FilePage = record { file = f; page = k } in
             let homed = new_homed n directory on changes are i below in
             let has : HasHome now_entries f k h = subst (λ (p : FilePage). HasHome now_entries p.file p.page h) (same_Some homed.0 page (sym homed.1 ∙ is)) homed.2 in
-            let at = new_beside h (i, below, refl) in
-            let bytes : cut_new directory changes given i ≡ padded_page (inside_of (later f) k) (given i) = ap (λ (o : Option FilePage). padded_page (inside_then directory changes o) (given i)) is in
-            let whole : length (cut_new directory changes given i) ≡ 4096 = ap length bytes ∙ length-trimmed (inside_of (later f) k) (given i) (inside_small (later f) k) in
-            page_given f k h (given i) has (in_parts h (cut_new directory changes given i) (λ j small. left_by h j None small at.0 ∙ stand i j below small) whole ∙ bytes) b.0 b.1
-            ∙ sym (put.added i page is)
+            by_home f k h here has (λ at. ⊎_elim
+            (λ (first : i < put). unslotted f k i first is here has at)
+            (λ (from : put ≤ i). absurd (not_given f k h i has at.1 from (omega (arith, below)) (given_new infos changes list i below ∙ is)))
+            (cases_lt i put))
 
         page_then : (f k : ℕ) → IsPageOf later f k → page_of left k (entry_by directory.pages left f) ≡ after f k
         page_then f k within =
@@ -365,8 +386,8 @@ module _ (n : ℕ) (directory : Directory) (on : IsDirectoryOn n directory) (cha
     pub stands_after : (image : Image) → IsKept (pool m n) sectors mid (StandsForPages (pool m n) After) image
         → (files : ℕ → Option FileInfo) (before after : ℕ → ℕ → List ℕ) → StandsFor (files_in_pool m directory.pages n) sectors files before old
         → ChangesFiles files changes list given before after → StandsFor (files_in_pool m directory.pages n) sectors (files_after files changes) after image
-    stands_after image kept files before after was put =
+    stands_after image kept files before after was becomes =
         let same : infos ≡ files = λ t f. files_are files before was f t in
-        let put_here : ChangesFiles infos changes list given before after = subst (λ (g : ℕ → Option FileInfo). ChangesFiles g changes list given before after) (sym same) put in
+        let here : ChangesFiles infos changes list given before after = subst (λ (g : ℕ → Option FileInfo). ChangesFiles g changes list given before after) (sym same) becomes in
         let was_here : StandsFor (files_in_pool m directory.pages n) sectors infos before old = subst (λ (g : ℕ → Option FileInfo). StandsFor (files_in_pool m directory.pages n) sectors g before old) (sym same) was in
-        subst (λ (g : ℕ → Option FileInfo). StandsFor (files_in_pool m directory.pages n) sectors (files_after g changes) after image) same (stands_then image kept before after was_here put_here)
+        subst (λ (g : ℕ → Option FileInfo). StandsFor (files_in_pool m directory.pages n) sectors (files_after g changes) after image) same (stands_then image kept before after was_here here)

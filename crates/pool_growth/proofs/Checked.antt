@@ -69,7 +69,7 @@ module _ (n : ℕ) (directory : Directory) (on : IsDirectoryOn n directory) (cha
   abbrev after : List (Option Entry)
   after = entries_then directory changes
 
-  info_there : (f : ℕ) → f < length entries → files_after (info_by directory) changes f ≡ option_map info_of (entry_in after f)
+  pub info_there : (f : ℕ) → f < length entries → files_after (info_by directory) changes f ≡ option_map info_of (entry_in after f)
   info_there f inside = sym (ap (option_map info_of) (entry_there entries changes f inside) ∙ info_is (change_of changes f) (entry_in entries f))
 
   -- a file with an entry has its place
@@ -78,11 +78,11 @@ module _ (n : ℕ) (directory : Directory) (on : IsDirectoryOn n directory) (cha
       let long = length_after entries changes in
       ⊎_elim (λ less. less) (λ (past : length entries ≤ f). absurd (none-some e (sym (get_or_past after f None (omega (arith, long, past))) ∙ is))) (cases_lt f (length entries))
 
-  had_place : (f : ℕ) (e : Entry) → entry_in entries f ≡ Some e → f < length entries
+  pub had_place : (f : ℕ) (e : Entry) → entry_in entries f ≡ Some e → f < length entries
   had_place f e is = ⊎_elim (λ less. less) (λ (past : length entries ≤ f). absurd (none-some e (sym (get_or_past entries f None past) ∙ is))) (cases_lt f (length entries))
 
   -- numbers and lengths are small
-  bounded : AreChanges entries changes → All IsSmallChange changes → HaveBounds after
+  pub bounded : AreChanges entries changes → All IsSmallChange changes → HaveBounds after
   bounded are small f e is = ⊎_elim
       (λ (ch : IsChanged entries changes f).
       let own = of_all IsSmallChange changes ch.has.place ch.change small ch.has.is in
@@ -183,11 +183,6 @@ module _ {D : Type 0} (store : PoolStore D) (changes : List Change) (list : List
     distinct = λ i j p less one two. twice list i j p rise less one two;
     ends = ends;
   }
-
-  pub each_kept : AreKeptPages store changes list → AreAllKept store.directory changes list
-  each_kept are k d inside =
-      let is = slice_get-get_or list k d inside in
-      (are.before k (get_or list k d) is, are.after k (get_or list k d) is)
 
 -- Ends of files that are changed:
 abbrev pub EndsAt : Directory → List Change → List FilePage → ℕ → Change → Type 0

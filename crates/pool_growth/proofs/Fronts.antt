@@ -75,7 +75,7 @@ located (x ∷ xs) (suc n) k h past is =
     record { place = suc rest.place; extent = rest.extent; is = rest.is; has = rest.has; past = omega (arith, le) }
 
 -- a page that a file of this entry has
-entry_of_page : (entry : Option Entry) (k : ℕ) → k < file_page_count (option_map info_of entry) → (e : Entry) × (entry ≡ Some e) × (k < file_page_count (Some (info_of e)))
+pub entry_of_page : (entry : Option Entry) (k : ℕ) → k < file_page_count (option_map info_of entry) → (e : Entry) × (entry ≡ Some e) × (k < file_page_count (Some (info_of e)))
 entry_of_page None k less = absurd (omega (arith, less))
 entry_of_page (Some e) k less = (e, refl, less)
 

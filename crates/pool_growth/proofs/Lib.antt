@@ -1,6 +1,7 @@
 pub mod New
 pub mod Rest
 pub mod Cut
+pub mod Ordering
 pub mod Directory
 pub mod Fronts
 pub mod Checked
@@ -10,3 +11,4 @@ pub mod Applied
 pub mod Listed
 pub mod Slotted
 pub mod Committed
+pub mod Proposed

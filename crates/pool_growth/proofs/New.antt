@@ -10,7 +10,7 @@ use Rattle.directories.specs.{Homes.{extents_of, homes_of, home_of_page, HasHome
 use Rattle.directories.proofs.{Owned.{gives_homes}, Places.{get_left, get_right, get_counted}}
 use Rattle.growth.specs.{Changes.{change_of, entry_after, entry_then, IsFreeHome}, declared.changes.Change.{Change}}
 use Rattle.growth.proofs.{Changed.{Rise, length_after, entry_there, entry_of_change}, Lasting.{keep_homes}, Listed.{no_change}}
-use Rattle.pool_growth.specs.{Asked.{AreFileChanges, entries_then}, Files.{added, added_count, files_after, info_then, new_page, file_page_count, IsNewPage}, Putting.{home_then, new_home, IsNewHome}}
+use Rattle.pool_growth.specs.{Asked.{AreFileChanges, entries_then}, Files.{added, added_count, files_after, info_then, new_page, file_page_count, HasThen, IsNewPage}, Putting.{home_then, new_home, IsNewHome}}
 use Rattle.pool_store.specs.{Files.{info_of}, Places.{number_of}, Store.{home_by, info_by, IsDirectoryOn}, declared.directory.Directory.{Directory}}
 
 page_is : (f k g l : ℕ) → f ≡ g → k ≡ l → ◌≡◌ {A = FilePage} (record { file = f; page = k }) (record { file = g; page = l })
@@ -267,13 +267,10 @@ module _ (n : ℕ) (directory : Directory) (changes : List Change) (are : AreFil
       let inside = some.2 in
       (bounds.0, omega (arith, length, inside))
 
-  -- So its home is found.
-  pub home_found : (p : FilePage) (found : Option Entry) (f : ℕ) → IsNewPage (info_by directory) changes p.file p.page → f ≡ p.file → found ≡ entry_after directory.entries.items changes f
+  -- The home of a page of a file is found,
+  pub home_found : (p : FilePage) (found : Option Entry) (f : ℕ) → HasThen (info_by directory) changes p → f ≡ p.file → found ≡ entry_after directory.entries.items changes f
       → (h : ℕ) × (home_by found p.page ≡ Some h) × (h < n)
-  home_found p found f new file is =
-      let same : new.1 ≡ p = same_page new.1 p new.3 new.4 in
-      let there : p.page < file_page_count (files_after (info_by directory) changes p.file) =
-      subst (λ (q : FilePage). q.page < file_page_count (files_after (info_by directory) changes q.file)) same (page_behind_last new.0 new.1 new.2).1 in
+  home_found p found f there file is =
       let home = later_homed p.file p.page there in (
         home.0,
         ap (λ (o : Option Entry). home_by o p.page) (is ∙ ap (entry_after directory.entries.items changes) file) ∙ home_is p home.0 home.1,
@@ -281,16 +278,16 @@ module _ (n : ℕ) (directory : Directory) (changes : List Change) (are : AreFil
       )
 
   -- where its entry is
-  pub home_by_entry : (p : FilePage) (found : Option (Bor Entry)) (e : Bor Entry) (f k : ℕ) (home : Option ℕ) → IsNewPage (info_by directory) changes p.file p.page → f ≡ p.file
+  pub home_by_entry : (p : FilePage) (found : Option (Bor Entry)) (e : Bor Entry) (f k : ℕ) (home : Option ℕ) → HasThen (info_by directory) changes p → f ≡ p.file
       → option_copied found ≡ entry_after directory.entries.items changes f → found ≡ Some e → k ≡ p.page → home ≡ home_of_page e.now k → (h : ℕ) × (home ≡ Some h) × (h < n)
-  home_by_entry p found e f k home new file is some page at =
-      let has = home_found p (option_copied found) f new file is in
+  home_by_entry p found e f k home there file is some page at =
+      let has = home_found p (option_copied found) f there file is in
       (has.0, at ∙ ap (home_of_page e.now) page ∙ sym (ap (λ o. home_by (option_copied o) p.page) some) ∙ has.1, has.2)
 
-  pub home_below : (p : FilePage) (found : Option (Bor Entry)) (e : Bor Entry) (f k : ℕ) (home : Option ℕ) (h : ℕ) → IsNewPage (info_by directory) changes p.file p.page → f ≡ p.file
+  pub home_below : (p : FilePage) (found : Option (Bor Entry)) (e : Bor Entry) (f k : ℕ) (home : Option ℕ) (h : ℕ) → HasThen (info_by directory) changes p → f ≡ p.file
       → option_copied found ≡ entry_after directory.entries.items changes f → found ≡ Some e → k ≡ p.page → home ≡ home_of_page e.now k → home ≡ Some h → h < n
-  home_below p found e f k home h new file is some page at this =
-      let has = home_by_entry p found e f k home new file is some page at in
+  home_below p found e f k home h there file is some page at this =
+      let has = home_by_entry p found e f k home there file is some page at in
       subst (λ g. g < n) (same_Some has.0 h (sym has.1 ∙ this)) has.2
 
 -- Changes of a directory:

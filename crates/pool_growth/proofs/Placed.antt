@@ -1,7 +1,7 @@
 -- New pages, written one after the other where they are to stand, and what stands beside them.
 use Rattle.std.proofs.Common.{ℕ, Bool, true, false, not, Option, Some, None, suc, List, Result, Ok, Err, IsErrAnd, OnOk, ◌≡◌, ◌<◌, ◌≤◌, ◌+◌, ◌*◌, ◌⊎◌, ◌∙◌, refl, sym, ap, subst, inl, inr, ⊎_elim, arith}
 use Rattle.std.proofs.lemmas.Bool.{cases_eq}
-use Rattle.disk_model.proofs.{Moments.{started, goes_on}, Naming.{once_apart, once_named}}
+use Rattle.disk_model.proofs.{Moments.{started, goes_on, wider}, Naming.{once_apart, once_named}}
 use Rattle.disk_model.specs.{Moments.{Touches, LeavesOnly}, Sectors.{part_of}, Stop.{Image, MayLeave, Names, NamesOnce}}
 use Rattle.disk_model.specs.declared.sector_disk.SectorDisk.{Ghosts}
 use Rattle.vm_types.specs.declared.file.FilePage.{FilePage}
@@ -237,51 +237,59 @@ module _ (journal : PoolJournal) (directory : Directory) (on : IsDirectoryOn jou
       (λ k was. (was.0, omega (arith, was.1), was.2)) (λ k here. (i, omega arith, here)) (λ k was here. two_new was.0 i k was.1 below was.2 here)
       so_far (once_named (IsPageSector (at i)) (IsPageSector (at i)) mid now (λ k here. here) page)
 
-  module _ {D : Type 0} (g : Ghosts D) (i : ℕ) (old mid new : D) (below : i < count) (run : RunsOnDevice g (IsPageSector (at i)) mid new) where
-    pub run_more : RunsOnDevice g (IsPut count) old mid → RunsOnDevice g (IsPut count) old new
-    run_more before = one_more g (IsPut count) old mid new before (of_more g (IsPageSector (at i)) (IsPut count) mid new (λ k here. (i, below, here)) run)
+  -- Where the first `put` of them are written:
+  module _ (put : ℕ) (low : put ≤ added_count (info_by directory) changes) where
+    of_all : (k : ℕ) → IsPut put k → IsPut count k
+    of_all k at = (at.0, (let below = at.1 in omega (arith, below, low)), at.2)
 
-    pub held_more : (given : ℕ → List ℕ) (page : List ℕ) → page ≡ cut_new directory changes given i → g.keeps_model new → HoldsNewPages journal directory changes given i (g.content mid)
-        → ((j : ℕ) → j < 8 → g.content new (at i + j) ≡ part_of page j) → HoldsNewPages journal directory changes given (i + 1) (g.content new)
-    held_more given page is keeps held written p j before small = ⊎_elim
-        (λ same. subst (λ s. g.content new (at s + j) ≡ part_of (cut_new directory changes given s) j) (sym same) (written j small ∙ ap (λ b. part_of b j) is))
-        (λ other. (let less : p < i = omega (arith, before, other) in
-        ⊎_elim {C = g.content new (at p + j) ≡ g.content mid (at p + j)}
-        (λ here. absurd (two_new p i (at p + j) less below (omega arith, omega (arith, small)) here)) (λ e. e) ((run.touches keeps).content (at p + j))
-        ∙ held p j less small))
-        (cases_eq p i)
+    module _ {D : Type 0} (g : Ghosts D) (i : ℕ) (old mid new : D) (below : i < put) (run : RunsOnDevice g (IsPageSector (at i)) mid new) where
+      pub run_more : RunsOnDevice g (IsPut put) old mid → RunsOnDevice g (IsPut put) old new
+      run_more before = one_more g (IsPut put) old mid new before (of_more g (IsPageSector (at i)) (IsPut put) mid new (λ k here. (i, below, here)) run)
 
-  -- Where they were written to a store's device
-  module _ {D S : Type 0} (g : Ghosts D) (s : SourceGhosts S) (old : D) (is : IsPoolOf g journal directory old)
-      (only_now : g.keeps_model old → (image : Image) → g.left_since old (g.moment old) image → MayLeave (g.content old) (g.unsynced old) image)
-      (new : D) (from left : S) (result : Result (Unit {0}) CommitFault)
-      (takes : TakesPages g s (IsPut count) old new from left result) (once : NamesOnce (IsPut count) (g.asked old) (g.asked new)) where
-    rest : g.keeps_model new → IsPoolRest g m n journal.second names old
-    rest keeps = (is.at_rest (takes.kept keeps)).rest
+      pub held_more : (given : ℕ → List ℕ) (page : List ℕ) → page ≡ cut_new directory changes given i → g.keeps_model new → HoldsNewPages journal directory changes given i (g.content mid)
+          → ((j : ℕ) → j < 8 → g.content new (at i + j) ≡ part_of page j) → HoldsNewPages journal directory changes given (i + 1) (g.content new)
+      held_more given page is keeps held written p j before small = ⊎_elim
+          (λ same. subst (λ s. g.content new (at s + j) ≡ part_of (cut_new directory changes given s) j) (sym same) (written j small ∙ ap (λ b. part_of b j) is))
+          (λ other. (let less : p < i = omega (arith, before, other) in
+          ⊎_elim {C = g.content new (at p + j) ≡ g.content mid (at p + j)}
+          (λ here. absurd (two_new p i (at p + j) less (omega (arith, below, low)) (omega arith, omega (arith, small)) here)) (λ e. e) ((run.touches keeps).content (at p + j))
+          ∙ held p j less small))
+          (cases_eq p i)
 
-    -- they are put, if they stand there and it is at rest,
-    pub puts : (g.keeps_model new → s.keeps_model left → OnOk result (NewPagesStand m n directory changes (s.pages from) count (g.content new)))
-        → (g.keeps_model new → OnOk result (IsPoolRest g m n journal.second names new))
-        → PutsNewPages g s journal directory changes old new from left result
-    puts stand at_rest = record {
-      puts = stand;
-      rest = at_rest;
-      any_moment = λ keeps. while_written g m n journal.second names old (rest keeps) (IsNewHome directory changes) (IsPut count) put_home put_whole (only_now (takes.kept keeps)) new (takes.touches keeps);
-      blocks = λ keeps. blocks_written g m n journal.second names old (rest keeps) (IsNewHome directory changes) (IsPut count) put_home put_whole (only_now (takes.kept keeps)) new (takes.touches keeps);
-      takes = takes;
-      once = once;
-    }
+    -- Where they were written to a store's device
+    module _ {D S : Type 0} (g : Ghosts D) (s : SourceGhosts S) (old : D) (is : IsPoolOf g journal directory old)
+        (only_now : g.keeps_model old → (image : Image) → g.left_since old (g.moment old) image → MayLeave (g.content old) (g.unsynced old) image)
+        (new : D) (from left : S) (result : Result (Unit {0}) CommitFault)
+        (takes : TakesPages g s (IsPut put) old new from left result) (once : NamesOnce (IsPut put) (g.asked old) (g.asked new)) where
+      rest : g.keeps_model new → IsPoolRest g m n journal.second names old
+      rest keeps = (is.at_rest (takes.kept keeps)).rest
 
-    -- or a fault is told;
-    pub not_put : (fault : CommitFault) → IsErrAnd result (λ e. e ≡ fault) → PutsNewPages g s journal directory changes old new from left result
-    not_put fault told = puts (λ keeps kept. none_of_error result (λ e. e ≡ fault) _ told) (λ keeps. none_of_error result (λ e. e ≡ fault) _ told)
+      writes : g.keeps_model new → Touches g (IsPut count) old new
+      writes keeps = wider g (IsPut put) (IsPut count) old new of_all (takes.touches keeps)
 
-    -- it is, once all is synced,
-    pub still_rest : g.keeps_model new → ((k : ℕ) → g.unsynced new k → ⊥) → IsPoolRest g m n journal.second names new
-    still_rest keeps = rest_written g m n journal.second names old (rest keeps) (IsNewHome directory changes) (IsPut count) put_home put_whole (only_now (takes.kept keeps)) new (takes.touches keeps)
+      -- they are put, if they stand there and it is at rest,
+      pub puts : (g.keeps_model new → s.keeps_model left → OnOk result (NewPagesStand m n directory changes (s.pages from) put (g.content new)))
+          → (g.keeps_model new → OnOk result (IsPoolRest g m n journal.second names new))
+          → PutsNewPages g s journal directory changes put old new from left result
+      puts stand at_rest = record {
+        puts = stand;
+        rest = at_rest;
+        any_moment = λ keeps. while_written g m n journal.second names old (rest keeps) (IsNewHome directory changes) (IsPut count) put_home put_whole (only_now (takes.kept keeps)) new (writes keeps);
+        blocks = λ keeps. blocks_written g m n journal.second names old (rest keeps) (IsNewHome directory changes) (IsPut count) put_home put_whole (only_now (takes.kept keeps)) new (writes keeps);
+        takes = takes;
+        once = once;
+      }
 
-    -- and they do where they are held.
-    pub now_stand : g.keeps_model new → HoldsNewPages journal directory changes (s.pages from) count (g.content new) → NewPagesStand m n directory changes (s.pages from) count (g.content new)
-    now_stand keeps held i j below small = place_written g m n journal.second names old (rest keeps) (IsNewHome directory changes) (IsPut count) put_home put_whole
-        (only_now (takes.kept keeps)) new (takes.touches keeps) (new_home directory changes i) j
-        ∙ held i j below small
+      -- or a fault is told;
+      pub not_put : (fault : CommitFault) → IsErrAnd result (λ e. e ≡ fault) → PutsNewPages g s journal directory changes put old new from left result
+      not_put fault told = puts (λ keeps kept. none_of_error result (λ e. e ≡ fault) _ told) (λ keeps. none_of_error result (λ e. e ≡ fault) _ told)
+
+      -- it is, once all is synced,
+      pub still_rest : g.keeps_model new → ((k : ℕ) → g.unsynced new k → ⊥) → IsPoolRest g m n journal.second names new
+      still_rest keeps = rest_written g m n journal.second names old (rest keeps) (IsNewHome directory changes) (IsPut count) put_home put_whole (only_now (takes.kept keeps)) new (writes keeps)
+
+      -- and they do where they are held.
+      pub now_stand : g.keeps_model new → HoldsNewPages journal directory changes (s.pages from) put (g.content new) → NewPagesStand m n directory changes (s.pages from) put (g.content new)
+      now_stand keeps held i j below small = place_written g m n journal.second names old (rest keeps) (IsNewHome directory changes) (IsPut count) put_home put_whole
+          (only_now (takes.kept keeps)) new (writes keeps) (new_home directory changes i) j
+          ∙ held i j below small

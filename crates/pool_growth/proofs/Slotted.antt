@@ -1,12 +1,13 @@
 -- Homes of pages that go into slots: the directory's, and behind them those of files.
 use Rattle.std.proofs.Common.{◌≡◌, ◌≤◌, ◌<◌, ◌+◌, ◌-◌, ◌*◌, ◌++◌, ℕ, zero, suc, Bool, List, Option, Some, None, length, map, get_or, refl, sym, ap, subst, ◌∙◌, ⊎_elim, inl, inr, arith}
-use Rattle.std.specs.Prelude.{is_some, if◌then◌else◌}
-use Rattle.std.proofs.lemmas.{Bool.{cases_lt}, List.{get_or-map, get_or_append_left, get_or-append_right, length-append, length-map}, Option.{same_Some, slice_get-get_or, slice_get_within}}
+use Rattle.std.specs.{List.{range_with_len}, Prelude.{is_some, if◌then◌else◌}}
+use Rattle.std.proofs.lemmas.{Bool.{cases_lt}, List.{get_or_append_left, get_or-append_right, length-append}, List.FromFn.{get_or-map-range_with_len, length-map-range_with_len}}
 use Rattle.vm_types.specs.declared.file.FilePage.{FilePage}
 use Rattle.growth.specs.declared.changes.Change.{Change}
-use Rattle.pool_growth.specs.{Asked.{changed_pages}, Late.{late_homes, listed_homes}}
+use Rattle.pool_growth.proofs.{New.{home_is}, Ordering.{ArePlacedThen}}
+use Rattle.pool_growth.specs.{Asked.{changed_pages, AreFileChanges}, Late.{given_home, given_homes, late_count, late_homes}, Putting.{home_then}}
 use Rattle.pool_journal.specs.{Commit.{thinned, IsDropped, IsMoved}, Committing.{IsPoolStaged}, Giving.{number_but, AreRising}, Journal.{live_count}}
-use Rattle.pool_store.{proofs.Ordered.{ArePlaced}, specs.{Places.{homes_of_pages, index_at, number_of}, Store.{home_of}}}
+use Rattle.pool_store.specs.{Places.{index_at, number_of}, Store.{info_by}}
 use Rattle.pool_store.specs.declared.{directory.Directory.{Directory}, room.Place.{Place}}
 use Rattle.sync_journal.{proofs.Images.{Means, place_means}, specs.Map.{home_rank}}
 
@@ -88,42 +89,41 @@ module _ (homes others : List ℕ) (long : length homes ≡ length others) (ther
   same_staged : (m : ℕ) (second : Bool) (was : Bool → ℕ → ℕ) (k : ℕ) → IsPoolStaged m second was homes k → IsPoolStaged m second was others k
   same_staged m second was k = ⊎_elim (λ bodies. inl (⊎_elim (λ moved. inl (same_dropped m was k moved)) (λ free. inr free) bodies)) (λ map. inr map)
 
--- Pages of a list, in the order of their homes:
-module _ (directory : Directory) (changes : List Change) (list : List FilePage) (places : List Place) (placed : ArePlaced directory list places (map (λ place. place.home) places)) where
+-- Pages that a source gives, in the order of their homes:
+module _ (n : ℕ) (directory : Directory) (changes : List Change) (are : AreFileChanges n directory changes) (list : List FilePage) (put : ℕ)
+    (places : List Place) (placed : ArePlacedThen directory changes list put places (map (λ place. place.home) places)) where
   abbrev homes : List ℕ
   homes = map (λ place. place.home) places
 
-  abbrev listed : List ℕ
-  listed = homes_of_pages directory list
+  abbrev count : ℕ
+  count = late_count (info_by directory) changes list put
 
-  abbrev number : FilePage → ℕ
-  number p = number_of (home_of directory p)
+  abbrev given : List ℕ
+  given = map (given_home directory changes list) (range_with_len put count)
 
-  index_below : (j : ℕ) → j < length homes → index_at places j < length list
-  index_below j below = (let each = placed.each j below in slice_get_within list (index_at places j) each.0 each.1)
+  given_long : length given ≡ count
+  given_long = length-map-range_with_len (given_home directory changes list) put count
 
-  listed_at : (j : ℕ) → j < length homes → get_or listed (index_at places j) 0 ≡ get_or homes j 0
-  listed_at j below =
+  given_at : (j : ℕ) → j < length homes → get_or given (index_at places j) 0 ≡ get_or homes j 0
+  given_at j below =
       let each = placed.each j below in
-      get_or-map number list (index_at places j) each.0 0 (index_below j below)
-      ∙ ap number (same_Some (get_or list (index_at places j) each.0) each.0 (sym (slice_get-get_or list (index_at places j) each.0 (index_below j below)) ∙ each.1))
-      ∙ ap number_of each.2
+      get_or-map-range_with_len (given_home directory changes list) put count (index_at places j) (put + index_at places j) 0 (placed.inside j below) refl
+      ∙ ap (λ (o : Option FilePage). number_of (home_then directory changes o)) each.1
+      ∙ ap number_of (home_is n directory changes are each.0 (get_or homes j 0) each.2)
 
-  are_listed : AreHomesOf homes listed
-  are_listed j below = (let within = index_below j below in let long = length-map list number in (index_at places j, omega (arith, within, long), listed_at j below))
+  are_given : AreHomesOf homes given
+  are_given j below = (let within = placed.inside j below in (index_at places j, omega (arith, within, given_long), given_at j below))
 
-  have_places : AreHomesOf listed homes
+  have_places : AreHomesOf given homes
   have_places i below =
-      let long = length-map list number in
-      let found = placed.found i (omega (arith, below, long)) in
-      (found.0, found.1, sym (listed_at found.0 found.1) ∙ ap (λ k. get_or listed k 0) found.2)
+      let found = placed.found i (omega (arith, below, given_long)) in
+      (found.0, found.1, sym (given_at found.0 found.1) ∙ ap (λ k. get_or given k 0) found.2)
 
-  -- a commit of theirs behind the directory's asks for the same as it does for the list
-  pub late_staged : (m : ℕ) (second : Bool) (was : Bool → ℕ → ℕ) (k : ℕ) → IsPoolStaged m second was (late_homes directory changes places) k → IsPoolStaged m second was (listed_homes directory changes list) k
+  -- a commit of theirs behind the directory's asks for the same as it does as they are given
+  pub late_staged : (m : ℕ) (second : Bool) (was : Bool → ℕ → ℕ) (k : ℕ) → IsPoolStaged m second was (late_homes directory changes places) k → IsPoolStaged m second was (given_homes directory changes list put) k
   late_staged =
       let own = changed_pages changes directory.pages in
       let one = length-append own homes in
-      let two = length-append own listed in
-      let long = length-map list number in
+      let two = length-append own given in
       let size = placed.size in
-      same_staged (own ++ homes) (own ++ listed) (omega (arith, one, two, long, size)) (behind_both own homes listed are_listed) (behind_both own listed homes have_places)
+      same_staged (own ++ homes) (own ++ given) (omega (arith, one, two, given_long, size)) (behind_both own homes given are_given) (behind_both own given homes have_places)

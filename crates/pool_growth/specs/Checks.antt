@@ -1,5 +1,5 @@
 -- What is found of changes and pages one by one.
-use Rattle.std.specs.Prelude.{ℕ, ◌*◌, ◌/◌, ◌%◌, ◌^◌, ◌<◌, ◌≤◌, ◌≡◌, ◌⊎◌, List, length, slice_get, Option, Some, IfSome, min, take}
+use Rattle.std.specs.Prelude.{ℕ, ◌+◌, ◌*◌, ◌/◌, ◌%◌, ◌^◌, ◌<◌, ◌≤◌, ◌≡◌, ◌⊎◌, List, length, slice_get, Option, Some, IfSome, min, take}
 use Rattle.std.specs.List.{All, AllPairs}
 use Rattle.std.specs.Option.{option_map}
 use Rattle.vm_types.specs.Limits.{file_limit}
@@ -8,11 +8,12 @@ use Rattle.directories.specs.{Homes.{homes_of, HasHome}, Layouts.{entry_in}}
 use Rattle.directories.specs.declared.entry.Entry.{Entry}
 use Rattle.growth.specs.{Changes.{AreChanges}, Parts.{extents_of_file, kept_count}, Refusals.{IsChangeRefused}}
 use Rattle.growth.specs.declared.changes.Change.{Change}
-use Rattle.pool_growth.specs.Asked.{entries_then, AreKeptPages}
+use Rattle.pool_growth.specs.Asked.{changed_pages, entries_then}
 use Rattle.pool_growth.specs.Files.{files_after, file_page_count, StandsInList}
 use Rattle.pool_growth.specs.declared.faults.{BadChanges.{BadChanges}, BadPages.{BadPages}}
 use Rattle.pool_growth.specs.declared.faults.BadChanges.TheVariants.{Form, Large, Homes, Moved}
 use Rattle.pool_growth.specs.declared.faults.BadPages.TheVariants.{Order, Outside, End, TooMany}
+use Rattle.pool_journal.specs.{Journal.{free_count}, Maps.{entries_of}}
 use Rattle.pool_store.specs.{Files.{info_of}, Store.{entry_of, info_by}}
 use Rattle.pool_store.specs.declared.{directory.Directory.{Directory}, store.PoolStore.{PoolStore}}
 
@@ -74,6 +75,10 @@ IsKeptPage directory changes p = BeginsInside (info_by directory p.file) p.page 
 abbrev pub AreAllKept : Directory → List Change → List FilePage → Type 0
 AreAllKept directory changes list = All (IsKeptPage directory changes) list
 
+-- this page of the list does not
+abbrev pub IsNotKept : Directory → List Change → List FilePage → FilePage → Type 0
+IsNotKept directory changes list p = (i : ℕ) × (slice_get list i ≡ Some p) × (IsKeptPage directory changes p → ⊥)
+
 -- where file f gets longer and its last page was not full, that page is one of the list
 abbrev pub ListsEnd : List FilePage → ℕ → Option FileInfo → Option FileInfo → Type 0
 ListsEnd list f before after = (was now : FileInfo) → before ≡ Some was → after ≡ Some now → was.length < now.length → (was.length % 4096 ≡ 0 → ⊥)
@@ -86,13 +91,10 @@ HasEnd directory changes list f = ListsEnd list f (info_by directory f) (files_a
 abbrev pub HasAllEnds : Directory → List Change → List FilePage → Type 0
 HasAllEnds directory changes list = (f : ℕ) → HasEnd directory changes list f
 
--- pages rise, and may not be committed with changes
-abbrev RiseButAreBad : {D : Type 0} → PoolStore D → List Change → List FilePage → Type 0
-RiseButAreBad store changes list = AllPairs PrecedesPage list × (AreKeptPages store changes list → ⊥)
-
--- why pages are refused: they don't rise; or they do, and something else is bad
+-- why pages are refused: they don't rise; or this one is no page of its file before and after; or none is the last one of this file, which gets longer; or they
+-- are more, with the changed pages of the directory, than slots are free
 abbrev pub ArePagesRefused : {D : Type 0} → PoolStore D → List Change → List FilePage → BadPages → Type 0
 ArePagesRefused store changes list Order = AllPairs PrecedesPage list → ⊥
-ArePagesRefused store changes list (Outside p) = RiseButAreBad store changes list
-ArePagesRefused store changes list (End f) = RiseButAreBad store changes list
-ArePagesRefused store changes list TooMany = RiseButAreBad store changes list
+ArePagesRefused store changes list (Outside p) = IsNotKept store.directory changes list p
+ArePagesRefused store changes list (End f) = HasEnd store.directory changes list f → ⊥
+ArePagesRefused store changes list TooMany = free_count store.journal.sizes.blocks (entries_of store.journal.map) < length list + length (changed_pages changes store.directory.pages)

@@ -1,10 +1,10 @@
 -- Files of a store with a pool change, with pages of theirs, all at once.
-use Rattle.std.specs.Prelude.{ℕ, ◌+◌, ◌*◌, ◌≤◌, ◌≡◌, ◌⊎◌, List, length, Option, Result, OnOk, IsErr, IsErrOf}
+use Rattle.std.specs.Prelude.{ℕ, ◌*◌, ◌≤◌, ◌≡◌, ◌⊎◌, List, Option, Result, OnOk, IsErr, IsErrOf}
 use Rattle.vm_types.specs.declared.{file.FileInfo.{FileInfo}, file.FilePage.{FilePage}}
 use Rattle.disk_model.specs.{Moments.{Touches, AsksOnly, LeavesOnly, LeavesNow}, Stop.{Image}}
 use Rattle.disk_model.specs.declared.sector_disk.SectorDisk.{Ghosts}
 use Rattle.growth.specs.declared.changes.Change.{Change}
-use Rattle.pool_growth.specs.{Asked.{changed_pages, entries_then}, Files.{files_after, ChangesFiles}, Late.{listed_homes}, Putting.{IsNewSector}}
+use Rattle.pool_growth.specs.{Asked.{entries_then}, Files.{files_after, ChangesFiles}, Late.{given_homes, put_count, slot_count}, Putting.{IsNewSector, IsPutSector}}
 use Rattle.pool_journal.specs.{Committing.{IsPoolStaged, PoolCommitsInBlocks}, Gates.{IsPoolGate}, Journal.{free_count}, Maps.{entries_of}, Pools.{IsLoose}}
 use Rattle.pool_store.specs.{Files.{StoreLayout, StandsFor}, Store.{layout_of, IsReadyPool}}
 use Rattle.pool_store.specs.declared.store.PoolStore.{PoolStore}
@@ -22,10 +22,10 @@ abbrev pub IsChangedSector : {D : Type 0} → PoolStore D → List Change → �
 IsChangedSector store changes k = IsNewSector store.journal store.directory changes k
     ⊎ (IsPoolGate k ⊎ IsLoose store.journal.sizes.blocks store.journal.second (entries_of store.journal.map) k)
 
--- what they ask for: where new pages stand, the gate, and what a commit of the pages that go into slots asks for before it
+-- what they ask for: where new pages stand that take no slots, the gate, and what a commit of the pages that go into slots asks for before it
 abbrev pub IsChangeAsked : {D : Type 0} → PoolStore D → List Change → List FilePage → ℕ → Type 0
-IsChangeAsked store changes list k = IsNewSector store.journal store.directory changes k
-    ⊎ (IsPoolGate k ⊎ IsPoolStaged store.journal.sizes.blocks store.journal.second (entries_of store.journal.map) (listed_homes store.directory changes list) k)
+IsChangeAsked store changes list k = IsPutSector store.journal store.directory changes (put_count store changes list) k
+    ⊎ (IsPoolGate k ⊎ IsPoolStaged store.journal.sizes.blocks store.journal.second (entries_of store.journal.map) (given_homes store.directory changes list (put_count store changes list)) k)
 
 module _ {D : Type 0} (g : Ghosts D) where
   -- Changes of files up to the sync of their new pages, or beyond that: then a commit. After whatever part of that a stop may spoil whole blocks.
@@ -45,8 +45,8 @@ module _ {D S : Type 0} (g : Ghosts D) (s : SourceGhosts S) where
     pub synced : g.keeps_model new.disk → OnOk result ((k : ℕ) → g.unsynced new.disk k → ⊥)
     pub ready : s.keeps_model given' → OnOk result (IsReadyPool g new)
     pub files : OnOk result (new.directory.entries.items ≡ entries_then old.directory changes)
-    -- as many slots are free as a body has, where the list and the changed pages of the directory took no more.
-    pub room : OnOk result (length list + length (changed_pages changes old.directory.pages) ≤ 504 * old.journal.sizes.blocks
+    -- as many slots are free as a body has, where what went into slots took no more.
+    pub room : OnOk result (slot_count old.directory changes list (put_count old changes list) ≤ 504 * old.journal.sizes.blocks
         → 504 * old.journal.sizes.blocks ≤ free_count old.journal.sizes.blocks (entries_of new.journal.map))
     -- Every image of a stop at any moment of the call stands for the files before or after, even one that spoils whole blocks of 4,096 bytes,
     pub any_moment : g.keeps_model new.disk → s.keeps_model given'
@@ -67,7 +67,8 @@ module _ {D S : Type 0} (g : Ghosts D) (s : SourceGhosts S) where
     pub pages : new.directory.pages ≡ old.directory.pages
     pub size : g.sector_count new.disk ≡ g.sector_count old.disk
     pub kept : g.keeps_model new.disk → g.keeps_model old.disk
-    -- No sector is asked for but those in which new pages stand, the gate, free slots, the other map and, where slots run out, pages of others with their homes;
+    -- No sector is asked for but those in which new pages stand that take no slots, the gate, free slots, the other map and, where slots run out, pages of others with
+    -- their homes;
     -- and none is written but those in which new pages stand, the gate and what is loose.
     pub asks : Asks s given given'
     pub asks_device : AsksOnly g (IsChangeAsked old changes list) old.disk new.disk

@@ -1,5 +1,5 @@
 -- What changes make of the files of a store.
-use Rattle.std.specs.Prelude.{ℕ, ◌+◌, ◌-◌, ◌≡◌, List, [], ◌∷◌, slice_get, Option, Some, None, nat_lt, if◌then◌else◌}
+use Rattle.std.specs.Prelude.{ℕ, ◌+◌, ◌-◌, ◌<◌, ◌≡◌, List, [], ◌∷◌, slice_get, Option, Some, None, nat_lt, if◌then◌else◌}
 use Rattle.std.specs.Option.{option_map}
 use Rattle.vm_types.specs.declared.{file.FileInfo.{FileInfo}, file.FilePage.{FilePage}}
 use Rattle.file_store.specs.{Commit.{cut_page}, Layout.{pages_of_length}}
@@ -34,6 +34,14 @@ added_count files (c ∷ cs) = added files c + added_count files cs
 abbrev pub new_page : (ℕ → Option FileInfo) → List Change → ℕ → Option FilePage
 new_page files [] i = None
 new_page files (c ∷ cs) i = if nat_lt i (added files c) then Some (record { file = c.file; page = file_page_count (files c.file) + i }) else new_page files cs (i - added files c)
+
+-- page k of those that a source gives for changes and a list: the new ones, and then those of the list
+abbrev pub given_page : (ℕ → Option FileInfo) → List Change → List FilePage → ℕ → Option FilePage
+given_page files changes list k = if nat_lt k (added_count files changes) then new_page files changes k else slice_get list (k - added_count files changes)
+
+-- its file has this page after changes
+abbrev pub HasThen : (ℕ → Option FileInfo) → List Change → FilePage → Type 0
+HasThen files changes p = p.page < file_page_count (files_after files changes p.file)
 
 -- this page is a new one
 abbrev pub IsNewPage : (ℕ → Option FileInfo) → List Change → ℕ → ℕ → Type 0

@@ -5,3 +5,4 @@ pub mod Front
 pub mod Late
 pub mod Commit
 pub mod Checks
+pub mod Sizes

@@ -1,4 +1,4 @@
--- The new pages of files, written where they are to stand: nobody looks there before the directory says that they are pages.
+-- New pages of files, written where they are to stand: nobody looks there before the directory says that they are pages.
 use Rattle.std.specs.Prelude.{ℕ, ◌+◌, ◌<◌, ◌≤◌, ◌≡◌, ◌⊎◌, List, Option, Some, None, Result, OnOk}
 use Rattle.vm_types.specs.{Files.{inside_of}, declared.file.FilePage.{FilePage}}
 use Rattle.disk_model.specs.{Moments.{LeavesOnly}, Sectors.{part_of}, Stop.{Image, NamesOnce}}
@@ -66,10 +66,10 @@ abbrev pub NewPagesStand : ℕ → ℕ → Directory → List Change → (ℕ �
 NewPagesStand m n directory changes given c image = (i j : ℕ) → i < c → j < 8 → pool_standing m n image (new_home directory changes i) j ≡ part_of (cut_new directory changes given i) j
 
 module _ {D S : Type 0} (g : Ghosts D) (s : Pages.Ghosts S) where
-  -- New pages are put where they are to stand:
-  pub record PutsNewPages (journal : PoolJournal) (directory : Directory) (changes : List Change) (old new : D) (from left : S) (result : Result (Unit {0}) CommitFault) : Type 0 where
+  -- The first `put` new pages are put where they are to stand:
+  pub record PutsNewPages (journal : PoolJournal) (directory : Directory) (changes : List Change) (put : ℕ) (old new : D) (from left : S) (result : Result (Unit {0}) CommitFault) : Type 0 where
     -- they stand as given,
-    pub puts : g.keeps_model new → s.keeps_model left → OnOk result (NewPagesStand journal.sizes.blocks journal.sizes.homes directory changes (s.pages from) (added_count (info_by directory) changes) (g.content new))
+    pub puts : g.keeps_model new → s.keeps_model left → OnOk result (NewPagesStand journal.sizes.blocks journal.sizes.homes directory changes (s.pages from) put (g.content new))
     -- and the device is at rest as it was.
     pub rest : g.keeps_model new → OnOk result (IsPoolRest g journal.sizes.blocks journal.sizes.homes journal.second (entries_of journal.map) new)
     -- Every image of a stop at any moment of the call leaves the other homes, even one that spoils whole blocks of 4,096 bytes.
@@ -77,6 +77,6 @@ module _ {D S : Type 0} (g : Ghosts D) (s : Pages.Ghosts S) where
     pub blocks : g.keeps_model new → LeavesInBlocks g (IsNewSector journal directory changes)
         (LeavesOtherHomes journal.sizes.blocks journal.sizes.homes (IsNewHome directory changes) (g.content old)) old new
     -- No sector is written or asked for but those in which they stand, each once at most, and each fault has its cause.
-    pub takes : TakesPages g s (IsNewSector journal directory changes) old new from left result
+    pub takes : TakesPages g s (IsPutSector journal directory changes put) old new from left result
     pub open takes use *
-    pub once : NamesOnce (IsNewSector journal directory changes) (g.asked old) (g.asked new)
+    pub once : NamesOnce (IsPutSector journal directory changes put) (g.asked old) (g.asked new)

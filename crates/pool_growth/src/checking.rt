@@ -6,7 +6,7 @@ ghost use Rattle.directories.specs.Homes.{homes_of};
 ghost use Rattle.growth.specs.Changes.{AreChanges};
 ghost use Rattle.growth.specs.Parts.{extents_of_file, kept_count};
 ghost use Rattle.pool_growth.specs.Asked.{changed_pages, AreFileChanges, AreKeptPages};
-ghost use Rattle.pool_growth.specs.Checks.{kept_home_count, AllKeepHomes, AreAllKept, AreChangesRefused, ArePagesRefused, BeginsInside, HasAllEnds, HasBadChange, HasEnd, HasKeptHomes, IsKeptPage, IsSmallChange, ListsEnd, PrecedesPage};
+ghost use Rattle.pool_growth.specs.Checks.{kept_home_count, AllKeepHomes, AreAllKept, AreChangesRefused, ArePagesRefused, BeginsInside, HasAllEnds, HasBadChange, HasEnd, HasKeptHomes, IsKeptPage, IsNotKept, IsSmallChange, ListsEnd, PrecedesPage};
 ghost use Rattle.pool_growth.specs.Files.{StandsInList};
 ghost use Rattle.pool_store.specs.Files.{info_of};
 ghost use Rattle.pool_store.specs.Store.{entry_of, IsReadyPool};
@@ -134,7 +134,8 @@ fn extents_of(file: Option<&Entry>) -> &[Extent]
 ///
 /// # Errors
 ///
-/// `Order` comes exactly where they don't rise, any other where they do and one of the rest doesn't hold.
+/// Each comes only for its reason: `Order` where they don't rise, `Outside` where one is no page of its file before and afterwards, `End` where the last page of its
+/// file is missing, and `TooMany` where they are too many.
 pub fn check_pages<D: SectorDisk>(
     store: &PoolStore<D>,
     asked: FileChanges<'_>,
@@ -185,7 +186,7 @@ fn precedes(one: FilePage, other: FilePage) -> bool
 
 /// The first of these pages that does not begin inside its file, before or afterwards.
 fn find_outside(directory: &Directory, asked: FileChanges<'_>) -> Option<FilePage>
-    ensures { MatchOption result (AreAllKept directory.now asked.entry.changes.now asked.entry.pages.now) (λ _. AreAllKept directory.now asked.entry.changes.now asked.entry.pages.now → ⊥) }
+    ensures { MatchOption result (AreAllKept directory.now asked.entry.changes.now asked.entry.pages.now) (IsNotKept directory.now asked.entry.changes.now asked.entry.pages.now) }
 {
     for page in asked.pages {
         if !is_kept(directory, asked.changes, *page) {
@@ -258,7 +259,7 @@ fn is_listed(pages: &[FilePage], file: u32, page: u64) -> bool
 }
 
 /// How many pages of a directory of so many are changed.
-fn count_changed(changes: &[Change], pages: u32) -> usize
+pub(crate) fn count_changed(changes: &[Change], pages: u32) -> usize
     ensures { result ≡ length (changed_pages changes.now pages) }
 {
     let mut count = 0;

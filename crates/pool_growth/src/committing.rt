@@ -9,8 +9,8 @@ ghost use Rattle.pool_store.specs.Store.{files_of, IsReadyPool};
 use crate::changes::FileChanges;
 use crate::front::ChangeRoom;
 use crate::late::Late;
-use crate::lookups::added_count;
-use crate::placing::put_new_pages;
+use crate::placing::{NewPages, put_new_pages};
+use crate::slots::{place_given, put_count};
 use disk_model::SectorDisk;
 use growth::Change;
 use pool_store::{Directory, PoolStore};
@@ -19,7 +19,9 @@ use sync_journal::{CommitFault, PageSource};
 /// Makes changes of files durable, and pages of theirs, all at once. The source gives first the new pages, which are those behind the last one that their file had, in
 /// the order of the changes, and then those of the list; each becomes zeros past its file's new end. A page that is neither is what it was.
 ///
-/// The changes are such as `check_changes` takes, and the pages such as `check_pages` takes. Where there are new pages it takes 3 syncs, otherwise 2.
+/// The changes are such as `check_changes` takes, and the pages such as `check_pages` takes. Where there are 64 new pages at most, and these, those of the list and the
+/// changed ones of the directory are no more than the slots that are free, all of them go into slots, and it takes 2 syncs. Otherwise the new ones are put where they are
+/// to stand, and it takes 3.
 ///
 /// # Errors
 ///
@@ -38,20 +40,25 @@ pub fn commit_changes<D: SectorDisk, S: PageSource>(
     requires gives { (i : ℕ) → i < added_count (files_of store.old) asked.changes.now + length asked.pages.now → S.gives source.old i }
     ensures { CommitsChanges D.SectorDisk S.PageSource store.old store.new asked.entry.changes.now asked.entry.pages.now source.old source.new result }
 {
+    let put = put_count(store, asked);
+    let new = NewPages {
+        changes: asked.changes,
+        count: put,
+    };
     put_new_pages(
         &mut store.disk,
         &store.journal,
         &store.directory,
-        asked.changes,
+        new,
         source,
     )?;
-    store.room.place(&store.directory, asked.pages);
-    let places = &store.room.places[..asked.pages.len()];
+    place_given(&mut store.room, &store.directory, asked, put);
+    let places = store.room.places.as_slice();
     room.list_directory(&store.directory, asked.changes);
-    room.list_kept(places);
+    room.list_files(places);
     let mut late = Late {
         source,
-        skipped: added_count(&store.directory, asked.changes) as u32,
+        put: put as u32,
         front: &room.pages,
         places,
         asked,

@@ -1,5 +1,9 @@
 //! Why changes of files, or pages with them, are refused.
+ghost use Rattle.std.specs.Prelude.{◌≡◌};
+ghost use Rattle.pool_growth.specs.declared.faults.BadSizes.TheVariants.{Memory};
+
 use growth::ChangeFault;
+use std::alloc::AllocError;
 use vm_types::FilePage;
 
 /// Why a commit does not take changes. Files are named by their numbers.
@@ -26,4 +30,23 @@ pub enum BadPages {
     End(u32),
     /// They are more, with the changed pages of the directory, than slots are free.
     TooMany,
+}
+
+/// Why no changes of files are proposed for sizes.
+#[derive(Clone, Copy, Debug, PartialEq, Eq)]
+pub enum BadSizes {
+    /// The files of the sizes don't rise, or one of them has no place in the directory, or a number over 63.
+    Form,
+    /// This file has 30 extents, and needs more homes, or there are not as many free ones in a row as it lacks.
+    NoHomes(u32),
+    /// There was too little memory for the changes.
+    Memory,
+}
+
+impl From<AllocError> for BadSizes {
+    ghost from_gives = { λ _ fault. fault ≡ Memory };
+
+    fn from(_: AllocError) -> Self {
+        BadSizes::Memory
+    }
 }

@@ -56,7 +56,7 @@ impl ChangeRoom {
     }
 
     /// Lists the homes of these places behind those of the directory.
-    pub(crate) fn list_kept(&mut self, places: &[Place])
+    pub(crate) fn list_files(&mut self, places: &[Place])
         requires { length self.old.homes.items + length places.now ≤ vec_capacity self.old.homes }
         ensures homes { self.new.homes.items ≡ self.old.homes.items ++ map (λ place. place.home) places.now }
         ensures pages { self.new.pages ≡ self.old.pages }

@@ -1,14 +1,16 @@
 //! A source of the pages that a commit of changes puts into slots.
-ghost use Rattle.std.specs.Prelude.{◌≡◌, ◌<◌, ◌≤◌, ◌+◌, ◌-◌, length, refl, slice_get};
+ghost use Rattle.std.specs.Prelude.{◌≡◌, ◌<◌, ◌≤◌, ◌+◌, ◌-◌, length, refl};
 ghost use Rattle.std.proofs.Common.{◌∙◌};
 ghost use Rattle.file_store.specs.Asking.{asks_nothing, asks_more};
-ghost use Rattle.pool_growth.specs.Late.{late_page};
+ghost use Rattle.pool_growth.specs.Files.{given_page};
+ghost use Rattle.pool_growth.specs.Late.{late_page, IsGiven};
 ghost use Rattle.pool_growth.specs.Putting.{inside_then};
 ghost use Rattle.pool_store.specs.Places.{index_at};
+ghost use Rattle.pool_store.specs.Store.{info_by};
 ghost use Rattle.sync_journal.specs.Source.{Asks};
 
 use crate::changes::FileChanges;
-use crate::lookups::inside_then;
+use crate::lookups::{given_page, inside_then};
 use file_store::trim;
 use pool_store::{Directory, Place};
 use sync_journal::{PageSource, SourceFault};
@@ -17,8 +19,8 @@ use sync_journal::{PageSource, SourceFault};
 #[derive(Drop)]
 pub(crate) struct Late<'a, S> {
     pub source: &'a mut S,
-    /// How many pages of the source come before those of the list: the new ones.
-    pub skipped: u32,
+    /// How many pages of the source come before those: new ones that are put where they are to stand.
+    pub put: u32,
     pub front: &'a [[u8; 4096]],
     pub places: &'a [Place],
     pub asked: FileChanges<'a>,
@@ -26,21 +28,23 @@ pub(crate) struct Late<'a, S> {
 }
 
 impl<S> Late<'_, S> {
-    /// How many bytes of the page at an index of the list lie inside its file then.
-    fn inside(&self, index: usize) -> usize
-        ensures { result ≡ inside_then self.now.directory.now self.now.asked.changes.now (slice_get self.now.asked.pages.now index) }
+    /// How many bytes of a page that the source gives lie inside its file then.
+    fn inside(&self, k: usize) -> usize
+        requires { IsGiven self.now.directory.now self.now.asked.changes.now self.now.asked.pages.now k }
+        ensures inside { result ≡ inside_then self.now.directory.now self.now.asked.changes.now (given_page (info_by self.now.directory.now) self.now.asked.changes.now self.now.asked.pages.now k) }
+        ensures most { result ≤ 4096 }
     {
-        match self.asked.pages.get(index) {
-            Some(page) => inside_then(self.directory, self.asked.changes, *page),
-            None => 0,
-        }
+        let page = given_page(self.directory, self.asked, k);
+        inside_then(self.directory, self.asked.changes, page)
     }
 }
 
 impl<S: PageSource> PageSource for Late<'_, S> {
-    ghost pages = { λ t j. late_page t.directory.now t.asked.changes.now t.asked.pages.now t.front.now t.places.now t.skipped (S.pages t.source.now) j };
+    ghost pages = { λ t j. late_page t.directory.now t.asked.changes.now t.asked.pages.now t.front.now t.places.now t.put (S.pages t.source.now) j };
 
-    ghost gives = { λ t j. (j < length t.front.now + length t.places.now) × (length t.front.now ≤ j → S.gives t.source.now (t.skipped + index_at t.places.now (j - length t.front.now))) };
+    ghost gives = { λ t j. (j < length t.front.now + length t.places.now) × (length t.front.now ≤ j
+        → IsGiven t.directory.now t.asked.changes.now t.asked.pages.now (t.put + index_at t.places.now (j - length t.front.now))
+        × S.gives t.source.now (t.put + index_at t.places.now (j - length t.front.now))) };
 
     ghost failures = { λ t. S.failures t.source.now };
 
@@ -53,9 +57,10 @@ impl<S: PageSource> PageSource for Late<'_, S> {
             *to = self.front[j];
             return Ok(());
         }
-        let index = self.places[j - self.front.len()].index as usize;
-        self.source.page(self.skipped as usize + index, to)?;
-        trim(to, self.inside(index));
+        let place = self.places[j - self.front.len()];
+        let k = self.put as usize + place.index as usize;
+        self.source.page(k, to)?;
+        trim(to, self.inside(k));
         Ok(())
     }
 

@@ -3,8 +3,9 @@
 //! A commit takes changes of files (`growth`: a file's number and its entry from then on, none where it goes) and pages. All of it becomes durable at once, or
 //! nothing: lengths and extents are entries of the directory, whose pages are committed as all others are.
 //!
-//! New pages, those behind the last one that their file had, take no slots: each is written where it is to stand, which nobody looks at before the directory
-//! says that it is a page, and they are synced before that. So as many as the device has homes may come with one commit, and each is written once.
+//! New pages, those behind the last one that their file had, go into slots with the others where they are 64 at most, and slots are free for all pages of the
+//! commit: an append takes the two syncs of any commit. Where they are more, they take no slots: each is written where it is to stand, which nobody looks at before the
+//! directory says that it is a page, and they are synced before that. So as many as the device has homes may come with one commit.
 #![tactic(auto)]
 
 mod changes;
@@ -15,10 +16,15 @@ mod front;
 mod late;
 mod lookups;
 mod placing;
+mod proposing;
+mod sizes;
+mod slots;
 
 pub use changes::FileChanges;
 pub use checking::{check_changes, check_pages};
 pub use committing::commit_changes;
-pub use faults::{BadChanges, BadPages};
+pub use faults::{BadChanges, BadPages, BadSizes};
 pub use front::ChangeRoom;
 pub use lookups::added_count;
+pub use proposing::propose_changes;
+pub use sizes::FileSize;

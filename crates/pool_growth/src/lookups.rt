@@ -1,14 +1,15 @@
 //! Files as they are after changes.
-ghost use Rattle.std.specs.Prelude.{◌≡◌, ◌≤◌, ◌<◌, ◌^◌, ℕ, Some};
+ghost use Rattle.std.specs.Prelude.{◌≡◌, ◌≤◌, ◌<◌, ◌+◌, ◌^◌, ℕ, length, Some};
 ghost use Rattle.std.specs.Option.{option_copied, option_map};
 ghost use Rattle.growth.specs.Changes.{change_of, entry_after};
 ghost use Rattle.pool_growth.specs.Asked.{AreFileChanges};
-ghost use Rattle.pool_growth.specs.Files.{added, added_count, new_page, file_page_count, IsNewPage};
+ghost use Rattle.pool_growth.specs.Files.{added, added_count, given_page, new_page, file_page_count, HasThen};
 ghost use Rattle.pool_growth.specs.Putting.{home_then, inside_then};
 ghost use Rattle.pool_store.specs.Files.{info_of};
 ghost use Rattle.pool_store.specs.Store.{info_by};
 ghost use Rattle.vm_types.specs.Files.{bytes_inside};
 
+use crate::changes::FileChanges;
 use directories::Entry;
 use growth::Change;
 use pool_store::Directory;
@@ -60,10 +61,10 @@ fn bytes_inside(entry: &Entry, page: u32) -> usize
     entry.length.saturating_sub(before).min(PAGE_BYTES as u64) as usize
 }
 
-/// The home of a new page.
-pub(crate) fn new_home(directory: &Directory, changes: &[Change], page: FilePage) -> u32
+/// The home that a page has after changes, where its file has it then.
+pub(crate) fn home_then(directory: &Directory, changes: &[Change], page: FilePage) -> u32
     requires on { (homes : ℕ) × (homes ≤ 2 ^ 30) × AreFileChanges homes directory.now changes.now }
-    requires new { IsNewPage (info_by directory.now) changes.now page.file page.page }
+    requires there { HasThen (info_by directory.now) changes.now page }
     ensures home { home_then directory.now changes.now (Some page) ≡ Some result }
     ensures inside { (homes : ℕ) → AreFileChanges homes directory.now changes.now → result < homes }
 {
@@ -124,4 +125,18 @@ pub(crate) fn new_page(directory: &Directory, changes: &[Change], i: usize) -> F
         left -= count;
     }
     unreachable!()
+}
+
+/// Page `k` of those that the source gives: the new ones, and then those of the list.
+pub(crate) fn given_page(directory: &Directory, asked: FileChanges<'_>, k: usize) -> FilePage
+    requires changes { (homes : ℕ) × AreFileChanges homes directory.now asked.changes.now }
+    requires inside { k < added_count (info_by directory.now) asked.changes.now + length asked.pages.now }
+    ensures { given_page (info_by directory.now) asked.entry.changes.now asked.entry.pages.now k ≡ Some result }
+{
+    let new = added_count(directory, asked.changes);
+    if k < new {
+        new_page(directory, asked.changes, k)
+    } else {
+        asked.pages[k - new]
+    }
 }

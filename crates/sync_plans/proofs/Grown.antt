@@ -1,11 +1,14 @@
 -- Files of an open store that change with pages of theirs, in the words of images of either kind.
-use Rattle.sync_plans.proofs.Names.{ℕ, ◌≡◌, ◌⊎◌, ◌<◌, ◌≤◌, List, Option, Result, Ok, Err, OnOk, Some, slice_get, inl, inr, ⊎_elim, refl, sym, ap, subst, ◌∙◌, arith, fun_ext, on_ok_weaker}
-use Rattle.sync_plans.proofs.Names.{Ghosts, SourceGhosts, Image, LeavesNow, LeavesOnly, MayLeave, joined, weaker, CommitFault, DiskFault, FileInfo, FilePage, Change, Directory, PoolSizes, PoolStore, Pool, IsReadyPool, StandsInPool}
-use Rattle.sync_plans.proofs.Names.{AreFileChanges, AreKeptPages, ChangesFiles, CommitsChanges, FreesSlots, HasPoolHead, IsChangedSector, IsNewSector, IsOutside, added_count, files_after, info_by, entries_of, files_in_pool, pool_gate, pool_home}
+use Rattle.sync_plans.proofs.Names.{ℕ, ◌+◌, ◌≡◌, ◌⊎◌, ◌<◌, ◌≤◌, List, Option, length, slice_get-get_or, Result, Ok, Err, OnOk, inl, inr, ⊎_elim, refl, sym, ap, subst, ◌∙◌, arith, fun_ext, on_ok_weaker}
+use Rattle.sync_plans.proofs.Names.{Ghosts, SourceGhosts, Image, LeavesNow, LeavesOnly, joined, weaker, CommitFault, DiskFault, FileInfo, FilePage, Change, Directory, PoolSizes, PoolStore, Pool, IsReadyPool, StandsInPool}
+use Rattle.sync_plans.proofs.Names.{AreFileChanges, AreKeptPages, ChangesFiles, CommitsChanges, FreesSlots, HasPoolHead, IsNewSector, added_count, files_after, info_by, entries_of, files_in_pool, pool_gate, pool_home}
 use Rattle.sync_plans.proofs.Names.{StandsFor, file_info, standing_page, committed_inside, files_said, from_pool, has_room, head_of, left_of_pool, not_behind, not_gate, of_head, put_home, stands_for_own, to_pool, ImageSays}
+use Rattle.std.specs.{List.{AllPairs}, Prelude.{slice_index_or}}
+use Rattle.pool_growth.specs.Checks.{PrecedesPage}
+use Rattle.pool_journal.proofs.Free.{free_most}
 use Rattle.sync_plans.proofs.{Possible.{some_pages}, Runs.{freed_outside, outside_then}}
-use Rattle.sync_plans.specs.declared.changing.ChangeRefusal.TheVariants.{Device as Failed}
-use Rattle.sync_plans.specs.{Changing.{ChangesOpenStore, ChangesStore, StandsForChanged}, Requests.{HasLayout, IsStore, KeepsOutside}}
+use Rattle.sync_plans.specs.declared.{lent_pages.PageBytes.{PageBytes}, resizing.ResizeRefusal.TheVariants.{Device as Failed}}
+use Rattle.sync_plans.specs.{Pages.{lent_page}, Resizing.{AreBrought, ChangesOpenStore, ChangesStore, StandsForChanged, StaysOpen}, Requests.{HasLayout, IsStore, KeepsOutside}}
 
 -- A commit of changes
 module _ {D S : Type 0} (g : Ghosts D) (s : SourceGhosts S) (old new : PoolStore D) (changes : List Change) (list : List FilePage) (given given' : S)
@@ -59,6 +62,17 @@ module _ {D S : Type 0} (g : Ghosts D) (s : SourceGhosts S) (old new : PoolStore
       (λ written. absurd (committed_inside g (Pool old) ready keeps' head.mark k written out)))
       (λ same. same) ((e.touches keeps).content k)
 
+-- Pages that a store takes with changes, and that rise, are brought with these where there are as many bytes as new pages and them.
+are_brought : {D : Type 0} (store : PoolStore D) (changes : List Change) (list : List FilePage) (count : ℕ) → AreKeptPages store changes list → AllPairs PrecedesPage list
+    → count ≡ added_count (info_by store.directory) changes + length list → AreBrought store.journal.sizes.blocks store.directory changes list count
+are_brought store changes list count kept rising all = record {
+  rising = rising;
+  kept = λ k d low. (let at = slice_get-get_or list k d low in (kept.before k (slice_index_or list k d) at, kept.after k (slice_index_or list k d) at));
+  ends = kept.ends;
+  few = (let few = kept.few in let most = free_most store.journal.sizes.blocks (entries_of store.journal.map) in omega (arith, few, most));
+  all = all;
+}
+
 -- Mark and kind of the image of an open store are those of one.
 pub has_head : {D : Type 0} (g : Ghosts D) (store : PoolStore D) → IsReadyPool g store → g.keeps_model store.disk → HasPoolHead (g.sector_count store.disk) (g.content store.disk)
 has_head g store ready keeps =
@@ -92,6 +106,9 @@ module _ {D : Type 0} (g : Ghosts D) (old mid : PoolStore D) (outcome : Result (
   layout_freed keeps store = weaker g old.disk mid.disk (StandsFor all files_then pages_then) (HasLayout all) (λ image s. s.layout)
       (frees.any_moment keeps files_then pages_then (own (frees.kept keeps) store))
 
+  pub stays_freed : StaysOpen g old.disk mid.disk
+  stays_freed = record { size = frees.size; kept = frees.kept; layout_moment = layout_freed }
+
   -- and what lies outside stays.
   pub outside_freed : g.keeps_model mid.disk → KeepsOutside all content (g.content mid.disk)
   outside_freed keeps = freed_outside g (Pool old) ready (frees.kept keeps) (g.content mid.disk) (frees.homes keeps (g.content mid.disk) (record { kept = λ n. inr refl }))
@@ -103,6 +120,11 @@ module _ {D : Type 0} (g : Ghosts D) (old mid : PoolStore D) (outcome : Result (
     pub are : AreFileChanges mid.journal.sizes.homes mid.directory changes
     are = subst (λ (d : Directory). AreFileChanges mid.journal.sizes.homes d changes) (sym same)
         (subst (λ (z : PoolSizes). AreFileChanges z.homes old.directory changes) (sym sizes) were)
+
+    brought : (count : ℕ) → AllPairs PrecedesPage list → count ≡ added_count (info_by old.directory) changes + length list → AreBrought old.journal.sizes.blocks old.directory changes list count
+    brought count rising sum = subst (λ (d : Directory). AreBrought old.journal.sizes.blocks d changes list count) same
+        (subst (λ (z : PoolSizes). AreBrought z.blocks mid.directory changes list count) sizes
+        (are_brought mid changes list count kept rising (subst (λ (d : Directory). count ≡ added_count (info_by d) changes + length list) (sym same) sum)))
 
     module _ (keeps : g.keeps_model new.disk) where
       keeps' : g.keeps_model mid.disk
@@ -144,33 +166,35 @@ module _ {D : Type 0} (g : Ghosts D) (old mid : PoolStore D) (outcome : Result (
           (subst (λ n. KeepsOutside n (g.content mid.disk) (g.content new.disk)) frees.size (changed_outside g s mid new changes list given given' result ready' e are keeps))
 
       -- So they do all at once.
-      pub changes_store : result ≡ Ok tt → IsStore all content → ChangesStore g old.disk new.disk changes list (s.pages given)
-      changes_store ok store =
+      pub changes_store : (count : ℕ) → AreBrought old.journal.sizes.blocks old.directory changes list count → result ≡ Ok tt → IsStore all content
+          → ChangesStore g old new.disk changes list count (s.pages given)
+      changes_store count brought ok store =
           let on : (P : Type 0) → OnOk result P → P = λ P was. subst (λ (r : Result (Unit {0}) CommitFault). OnOk r P) ok was in
           record {
             store = store;
             pool = (head_of g old ready (frees.kept keeps')).mark;
+            brought = brought;
             ok = λ files before after left changed. on (LeavesNow g new.disk (StandsFor all (files_after files changes) after)) (then_all files before after left changed);
             synced = on ((k : ℕ) → g.unsynced new.disk k → ⊥) (e.synced keeps);
             any_moment = while_all;
             outside = outside_all;
           }
 
-    pub changed_open : result ≡ Ok tt → ChangesOpenStore g old.disk new.disk changes list (s.pages given) (Ok tt)
-    changed_open ok = record {
-      size = e.size ∙ frees.size;
-      kept = λ keeps. frees.kept (e.kept keeps);
-      layout_moment = layout_changed;
-      changed = λ keeps store. changes_store keeps ok store;
+    stays_changed : StaysOpen g old.disk new.disk
+    stays_changed = record { size = e.size ∙ frees.size; kept = λ keeps. frees.kept (e.kept keeps); layout_moment = layout_changed }
+
+    pub changed_open : (bytes : List PageBytes) → AllPairs PrecedesPage list → length bytes ≡ added_count (info_by old.directory) changes + length list → s.pages given ≡ lent_page bytes → result ≡ Ok tt
+        → ChangesOpenStore g old new.disk changes list bytes (Ok tt)
+    changed_open bytes rising sum lent ok = record {
+      stays = stays_changed;
+      changed = λ keeps store. subst (λ (pages : ℕ → List ℕ). ChangesStore g old new.disk changes list (length bytes) pages) lent (changes_store keeps (length bytes) (brought (length bytes) rising sum) ok store);
       refused = tt;
     }
 
     -- Or the device fails.
-    pub failed_open : g.failures mid.disk < g.failures new.disk → ChangesOpenStore g old.disk new.disk changes list (s.pages given) (Err Failed)
-    failed_open more = record {
-      size = e.size ∙ frees.size;
-      kept = λ keeps. frees.kept (e.kept keeps);
-      layout_moment = layout_changed;
+    pub failed_open : (bytes : List PageBytes) → g.failures mid.disk < g.failures new.disk → ChangesOpenStore g old new.disk changes list bytes (Err Failed)
+    failed_open bytes more = record {
+      stays = stays_changed;
       changed = λ keeps store. tt;
-      refused = record { cause = λ is. (let later = frees.cause.later in omega (arith, later, more)); none = λ keeps is. cc; memory = λ keeps is. cc };
+      refused = record { cause = λ is. (let later = frees.cause.later in omega (arith, later, more)); pages = λ is. cc; else = inl refl };
     }

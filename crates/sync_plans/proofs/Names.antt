@@ -18,10 +18,10 @@ pub use Rattle.stores.specs.Store.{capacity_in, directory_of, disk_of, files_in,
 pub use Rattle.stores.specs.declared.{faults.OpenFault.{OpenFault}, store.{Store.{Store}, Store.TheVariants.{Journal, Pool}}}
 pub use Rattle.disk_model.proofs.Moments.{still_leaves}
 pub use Rattle.growth.specs.declared.changes.Change.{Change}
-pub use Rattle.pool_growth.{proofs.{New.{added_few, new_behind, new_found, new_once}, Placed.{not_behind, not_gate, put_home}}, specs.{Asked.{AreFileChanges, AreKeptPages}, Commit.{CommitsChanges, IsChangedSector}, Files.{added_count, file_page_count, files_after, new_page, ChangesFiles, IsNewPage, StandsInList}, Putting.{IsNewSector}}}
+pub use Rattle.pool_growth.{proofs.{New.{added_few, new_behind, new_found, new_once}, Placed.{not_behind, not_gate, put_home}}, specs.{Asked.{AreFileChanges, AreKeptPages}, Commit.{CommitsChanges}, Files.{added_count, file_page_count, files_after, new_page, ChangesFiles, IsNewPage, StandsInList}, Putting.{IsNewSector}}}
 pub use Rattle.pool_journal.specs.{Maps.{entries_of}, Pools.{pool_gate, pool_home}, declared.{map.SlotMap.{SlotMap}, sizes.PoolSizes.{PoolSizes}}}
 pub use Rattle.pool_store.proofs.OneKind.{has_room}
-pub use Rattle.pool_store.specs.{Files.{StandsFor as StandsInPool}, Pools.{files_in_pool}, Resume.{HasPoolHead, IsNoPool, RefusesToResume as RefusesPool, ResumesStore}, Store.{info_by, IsDirectoryOn, IsReadyPool}, Tidying.{TidiesStore as TidiesPool}}
+pub use Rattle.pool_store.specs.{Files.{StandsFor as StandsInPool}, Pools.{files_in_pool}, Resume.{HasPoolHead, RefusesToResume as RefusesPool, ResumesStore}, Store.{info_by, IsDirectoryOn, IsReadyPool}, Tidying.{TidiesStore as TidiesPool}}
 pub use Rattle.pool_store.specs.declared.{directory.Directory.{Directory}, faults.OpenFault.{OpenFault as PoolFault, TheVariants.{Device as PoolDevice, BadLayout as PoolLayout, Memory as PoolMemory}}, store.PoolStore.{PoolStore}}
 pub use Rattle.stores.proofs.{PoolOpens.{pool_resumes}, RoomMade.{none_freed}, Said.{committed_inside}, Says.{from_pool, left_of_pool, to_pool}, Tidied.{pool_tidied}}
 pub use Rattle.sync_journal.{proofs.Sectors.{reads_unsynced, same_image, so_before, so_since, while_read}, specs.{Runs.{RunsOnDevice}, declared.{faults.CommitFault.{CommitFault}, source.PageSource.{Ghosts as SourceGhosts}}}}

@@ -1,5 +1,5 @@
 -- What changes of files make of the pages before them: there is such a thing.
-use Rattle.sync_plans.proofs.Names.{ℕ, zero, suc, ◌+◌, ◌<◌, ◌≤◌, ◌≡◌, ◌⊎◌, List, [], ◌∷◌, Option, Some, None, slice_get, inl, inr, ⊎_elim, refl, sym, ap, subst, ◌∙◌, arith, cases_eq, cases_lt, false≢true, is_some, same_Some}
+use Rattle.sync_plans.proofs.Names.{ℕ, zero, suc, ◌+◌, ◌<◌, ◌≤◌, ◌≡◌, ◌⊎◌, List, [], ◌∷◌, Option, Some, slice_get, inl, inr, ⊎_elim, refl, sym, ap, subst, ◌∙◌, arith, cases_eq, cases_lt, false≢true, is_some, same_Some}
 use Rattle.sync_plans.proofs.Names.{FileInfo, FilePage, Change, Directory, IsPageOf, AreFileChanges, IsDirectoryOn, ChangesFiles, IsNewPage, StandsInList, added_count, cut_page, file_page_count, files_after, info_by, new_page, new_behind, new_found, new_once}
 use Rattle.sync_plans.proofs.Changed.{same_page}
 

@@ -5,4 +5,4 @@ pub mod Requests
 pub mod PlanDisk
 pub mod Writing
 pub mod Planned
-pub mod Changing
+pub mod Resizing

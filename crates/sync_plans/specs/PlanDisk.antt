@@ -9,7 +9,7 @@ use Rattle.sync_plans.specs.Device.{PlanLeftSince}
 
 -- the pages that calls may name
 abbrev pub pages_of : PlanDisk → ℕ → List ℕ
-pages_of d = lent_page d.lent.now
+pages_of d = lent_page d.lent.pages.now
 
 -- what the device holds once the listed calls are made
 abbrev pub content_of : PlanDisk → Image

@@ -38,7 +38,7 @@ pub record IsListable (d : PlanDisk) (call : Call) : Type 0 where
 -- the image, the lent pages and the room stay, no sector is named to the device, and none is lost
 pub record KeepsPlan (old new : PlanDisk) : Type 0 where
   pub image : new.image.now ≡ old.image.now
-  pub lent : new.lent.now ≡ old.lent.now
+  pub lent : new.lent ≡ old.lent
   pub room : new.room ≡ old.room
   pub asked : new.asked ≡ old.asked
   pub lost : new.lost ≡ old.lost

@@ -7,7 +7,7 @@ ghost use Rattle.sync_plans.specs.Plans.{row, writes_to, written_bytes, is_writt
 ghost use Rattle.sync_plans.specs.Device.{NamesPage};
 
 use crate::call::Call;
-use crate::lent_pages::PageBytes;
+use crate::lent_pages::LentPages;
 use crate::scratch::Scratch;
 use disk_model::{Asked, Count, DiskFault, SECTOR_BYTES, SectorDisk, parts};
 
@@ -24,7 +24,7 @@ const COPY: u64 = 4;
 pub(crate) struct PlanDisk<'a> {
     pub image: &'a [[u8; 512]],
     /// The pages that calls may name.
-    pub lent: &'a [PageBytes<'a>],
+    pub lent: LentPages<'a>,
     pub calls: &'a mut [Call],
     pub rows: &'a mut [[u8; 512]],
     /// How many calls may be listed.
@@ -37,9 +37,6 @@ pub(crate) struct PlanDisk<'a> {
     /// The first sector of the page that was read last, and whether no page was written since.
     read: u64,
     is_fresh: bool,
-    /// The lent page that is looked for next, and the sector behind the page that was copied last.
-    next: usize,
-    after: u64,
     /// A call found no room.
     pub full: bool,
     pub failures: Count,
@@ -50,7 +47,7 @@ pub(crate) struct PlanDisk<'a> {
     ghost rows_long: { room ≤ length rows.now },
     ghost within: { used ≤ room },
     ghost all: { AreCalls (length image.now) calls.now used },
-    ghost sources: { AreSources (lent_page lent.now) calls.now used },
+    ghost sources: { AreSources (lent_page lent.pages.now) calls.now used },
     ghost filled: { full ≡ true → used ≡ room },
     ghost calm: { full ≡ false → failures.number ≡ 0 },
     ghost kept: { full ≡ false → (n : ℕ) → times_named lost n ≡ 0 },
@@ -118,24 +115,6 @@ fn place(call: Call, n: u64) -> usize
     (n - call.sector) as usize
 }
 
-/// The lent page that is looked for after such a call: a page that is copied is none of them.
-fn next_after(next: usize, call: Call) -> usize {
-    if call.kind == COPY {
-        next
-    } else {
-        next.saturating_add(1)
-    }
-}
-
-/// The sector behind the page that was copied last, with this call too.
-fn copied_end(after: u64, call: Call) -> u64 {
-    if call.kind == COPY {
-        call.sector.saturating_add(8)
-    } else {
-        after
-    }
-}
-
 /// Keeps the row of a call that has one.
 fn keep_row(to: &mut [u8; 512], call: Call, bytes: &[u8; 512])
     ensures { call.kind ≡ 1 → to.new ≡ bytes.now }
@@ -151,11 +130,11 @@ impl<'a> PlanDisk<'a> {
 
     pub(crate) fn new(
         image: &'a [[u8; 512]],
-        lent: &'a [PageBytes<'a>],
+        lent: LentPages<'a>,
         scratch: Scratch<'a>,
         most: usize,
     ) -> PlanDisk<'a>
-        ensures { Begins image.now (lent_page lent.now) (min (min (length scratch.entry.calls.now) (length scratch.entry.rows.now)) most) result }
+        ensures { Begins image.now (lent_page lent.entry.pages.now) (min (min (length scratch.entry.calls.now) (length scratch.entry.rows.now)) most) result }
     {
         let Scratch { calls, rows } = scratch;
         let room = calls.len().min(rows.len()).min(most);
@@ -172,8 +151,6 @@ impl<'a> PlanDisk<'a> {
             },
             read: u64::MAX,
             is_fresh: false,
-            next: 0,
-            after: 0,
             full: false,
             failures: Count::new(),
             asked: Asked::new(),
@@ -221,8 +198,6 @@ impl<'a> PlanDisk<'a> {
         requires names { NamesPage (pages_of self.old) (row self.old.image.now) call.sector from.now call }
         ensures { PutsPage self.old self.new call.sector from.now result }
     {
-        self.next = next_after(self.next, call);
-        self.after = copied_end(self.after, call);
         match self.list(call, &parts(from)[0]) {
             Ok(()) => Ok(()),
             Err(fault) => Err(fault),
@@ -247,15 +222,12 @@ impl<'a> PlanDisk<'a> {
         requires fits { n < 2 ^ 60 }
         ensures { PutsPage self.old self.new n from.now result }
     {
-        self.next = self.next_at(n);
         let named = self.named(n, from);
         self.is_fresh = false;
+        self.lent.last.set(None);
         match named {
             Some(call) => self.put_page(call, from),
-            None => {
-                self.next = self.next.saturating_add(1);
-                self.put_sectors(n, from)
-            }
+            None => self.put_sectors(n, from),
         }
     }
 
@@ -272,14 +244,15 @@ impl<'a> PlanDisk<'a> {
         self.untouched.without(call.sector, end, self.read)
     }
 
-    /// Which of the lent pages come before the one that is looked for at sector `n`: as many as pages were written since the last sync, but those that were
-    /// copied. They are copied each behind its read, from one that lies before. Where one that was copied had the bytes of the first of the caller's by chance, the next one
-    /// of these lies directly behind it, and the first counts too.
-    fn next_at(&self, n: u64) -> usize {
-        if n == self.after && !self.is_fresh {
-            self.next.saturating_add(1)
-        } else {
-            self.next
+    /// Which lent page this is: the one that was asked for since a page was written, if it has these bytes. It has not where it is the last page of a file, which is
+    /// cut at its end, or is stored to meanwhile.
+    fn find_lent(&self, page: &[u8; 4096]) -> Option<usize>
+        ensures { IfSome result (λ i. (i < length self.now.lent.pages.now) × (lent_page self.now.lent.pages.now i ≡ page.now)) }
+    {
+        let lent = self.lent.pages;
+        match self.lent.last.get() {
+            Some(i) if i < lent.len() && *lent[i].at == *page => Some(i),
+            _ => None,
         }
     }
 
@@ -298,14 +271,14 @@ impl<'a> PlanDisk<'a> {
                 from: self.read,
             });
         }
-        if self.next < self.lent.len() && *self.lent[self.next].at == *page {
-            return Some(Call {
+        match self.find_lent(page) {
+            Some(i) => Some(Call {
                 kind: LENT,
                 sector: n,
-                from: self.next as u64,
-            });
+                from: i as u64,
+            }),
+            None => None,
         }
-        None
     }
 
     /// Whether the image has this page in the sectors from `at` on, none of which is written.
@@ -355,7 +328,7 @@ impl<'a> PlanDisk<'a> {
         }
         let i = place(call, n);
         if call.kind == LENT {
-            return &parts(self.lent[call.from as usize].at)[i];
+            return &parts(self.lent.pages[call.from as usize].at)[i];
         }
         &self.image[call.from as usize + i]
     }
@@ -364,7 +337,7 @@ impl<'a> PlanDisk<'a> {
     fn listed(&self, k: usize) -> Call
         requires { k < self.now.used }
         ensures here { slice_get self.now.calls.now k ≡ Some result }
-        ensures lent { result.kind ≡ 3 → result.from < length self.now.lent.now }
+        ensures lent { result.kind ≡ 3 → result.from < length self.now.lent.pages.now }
         ensures copied { 3 < result.kind → result.from + 8 ≤ length self.now.image.now }
     {
         self.calls[k]
@@ -463,13 +436,6 @@ impl SectorDisk for PlanDisk<'_> {
             sector: 0,
             from: 0,
         };
-        match self.list(call, &[0; SECTOR_BYTES]) {
-            Ok(()) => {
-                // The pages of a commit lie between two syncs.
-                self.next = 0;
-                Ok(())
-            }
-            Err(fault) => Err(fault),
-        }
+        self.list(call, &[0; SECTOR_BYTES])
     }
 }

@@ -4,8 +4,7 @@ ghost use Rattle.vm_types.specs.declared.file.FileInfo.{FileInfo};
 ghost use Rattle.file_store.specs.Standing.{IsPageOf};
 ghost use Rattle.stores.specs.Commit.{ArePages};
 ghost use Rattle.stores.specs.Images.{StandsFor, capacity_pages, file_info};
-ghost use Rattle.pool_store.specs.Resume.{IsNoPool};
-ghost use Rattle.sync_plans.specs.Changing.{PlansChanges};
+ghost use Rattle.sync_plans.specs.Resizing.{PlansResizing, RefusesSizesOf};
 ghost use Rattle.sync_plans.specs.Pages.{lent_page};
 ghost use Rattle.sync_plans.specs.Planned.{PlansOpening, PlansTidying, PlansCommit};
 ghost use Rattle.sync_plans.specs.Plans.{row, room_of, AreCalls};
@@ -13,24 +12,25 @@ ghost use Rattle.sync_plans.specs.Requests.{IsStore, AreReadOnly, RefusesImage};
 ghost use Rattle.sync_plans.specs.Writing.{Begins, CopiesPlan};
 
 use crate::call::Call;
-use crate::changing::{ChangeRefusal, change};
-use crate::lent_pages::PageBytes;
+use crate::lent_pages::LentPages;
 use crate::plan_disk::PlanDisk;
 use crate::requests::{Refusal, commit, facts, open, read, tidy};
+use crate::resizing::{ResizeRefusal, resize};
 use crate::scratch::Scratch;
-use crate::updates::{FileUpdates, PageUpdates};
+use crate::updates::{PageUpdates, SizeUpdates};
 use std::alloc::Global;
+use std::cell::Cell;
 use vm_types::{FileInfo, FilePage};
 
 /// A plan for this image that may have as many calls as the shortest of the four lists has places.
 fn begun<'a>(
     image: &'a [[u8; 512]],
-    lent: &'a [PageBytes<'a>],
+    lent: LentPages<'a>,
     scratch: Scratch<'a>,
     calls: &[Call],
     rows: &[[u8; 512]],
 ) -> PlanDisk<'a>
-    ensures { Begins image.now (lent_page lent.now) (room_of scratch.entry.calls.now scratch.entry.rows.now calls.now rows.now) result }
+    ensures { Begins image.now (lent_page lent.entry.pages.now) (room_of scratch.entry.calls.now scratch.entry.rows.now calls.now rows.now) result }
 {
     PlanDisk::new(image, lent, scratch, calls.len().min(rows.len()))
 }
@@ -63,9 +63,9 @@ fn told<E: Copy>(
 /// Plans that pages become durable all at once. There is at least one and there are no more than the store takes: 1,023 of layout 2, of layout 4
 /// as many as its pool has slots. Where fewer of these are free, all pages that stand in slots are brought home first, which takes 2 syncs more.
 ///
-/// Pages best come in rising order, by file and then by page. Then the plan takes a time that grows as it does, and of layout 4 a call names each page where
-/// it is lent, but one with bytes past its file's end. In another order each page is looked for among those before it, and of layout 4 one that does not stand at its
-/// place in the order of the homes is written by eight calls, with a row each.
+/// In any order of the pages each is written by a call that names where its bytes lie, but one with bytes past its file's end, or that is stored to meanwhile: it is
+/// written by eight calls, with a row each. A plan for pages in rising order, by file and then by page, takes a time that grows as it does; in another order each
+/// page is looked for among those before it.
 ///
 /// # Errors
 ///
@@ -88,8 +88,13 @@ pub fn plan_commit(
         (AreReadOnly (length image.now) (row image.now) updates.entry.pages.now)) }
 {
     let PageUpdates { pages, bytes } = updates;
-    let disk = begun(image, bytes, scratch, calls, rows);
-    let (disk, outcome) = commit(alloc, disk, pages, bytes);
+    let last = Cell::new(None);
+    let source = LentPages {
+        pages: bytes,
+        last: &last,
+    };
+    let disk = begun(image, source, scratch, calls, rows);
+    let (disk, outcome) = commit(alloc, disk, pages, source);
     told(&disk, outcome, Refusal::Device, calls, rows)
 }
 
@@ -110,7 +115,8 @@ pub fn plan_open(
     ensures no_room { IfErr result (λ refusal. refusal ≡ Refusal.Device → AreCalls (length image.now) calls.new (room_of scratch.entry.calls.now scratch.entry.rows.now calls.old rows.old)) }
     ensures refused { IfErr result (RefusesImage (length image.now) (row image.now) ⊥ ⊥) }
 {
-    let disk = begun(image, &[], scratch, calls, rows);
+    let last = Cell::new(None);
+    let disk = begun(image, LentPages::none(&last), scratch, calls, rows);
     let (disk, outcome) = open(alloc, disk);
     told(&disk, outcome, Refusal::Device, calls, rows)
 }
@@ -131,7 +137,8 @@ pub fn plan_tidy(
     ensures no_room { IfErr result (λ refusal. refusal ≡ Refusal.Device → AreCalls (length image.now) calls.new (room_of scratch.entry.calls.now scratch.entry.rows.now calls.old rows.old)) }
     ensures refused { IfErr result (RefusesImage (length image.now) (row image.now) ⊥ ⊥) }
 {
-    let disk = begun(image, &[], scratch, calls, rows);
+    let last = Cell::new(None);
+    let disk = begun(image, LentPages::none(&last), scratch, calls, rows);
     let (disk, outcome) = tidy(alloc, disk);
     told(&disk, outcome, Refusal::Device, calls, rows)
 }
@@ -154,7 +161,8 @@ pub fn read_page(
     ensures inside { OnOk result (IsPageOf (file_info (length image.now) (row image.now)) page.file page.page) }
     ensures refused { IfErr result (RefusesImage (length image.now) (row image.now) (IsPageOf (file_info (length image.now) (row image.now)) page.file page.page → ⊥) ⊥) }
 {
-    let disk = PlanDisk::new(image, &[], scratch, usize::MAX);
+    let last = Cell::new(None);
+    let disk = PlanDisk::new(image, LentPages::none(&last), scratch, usize::MAX);
     let (disk, outcome) = read(alloc, disk, page, to);
     if disk.full {
         return Err(Refusal::Device);
@@ -177,7 +185,8 @@ pub fn file_facts(
     ensures store { OnOk result (IsStore (length image.now) (row image.now)) }
     ensures refused { IfErr result (RefusesImage (length image.now) (row image.now) ⊥ ⊥) }
 {
-    let disk = PlanDisk::new(image, &[], scratch, usize::MAX);
+    let last = Cell::new(None);
+    let disk = PlanDisk::new(image, LentPages::none(&last), scratch, usize::MAX);
     let (disk, outcome) = facts(alloc, disk, file);
     if disk.full {
         return Err(Refusal::Device);
@@ -185,27 +194,37 @@ pub fn file_facts(
     outcome
 }
 
-/// Plans that files change, and pages of theirs, all at once: of a store with a pool. The new pages come first, in the order of the changes, then those of the list. Where
-/// fewer slots are free than it takes, all pages that stand in slots are brought home first, which takes 2 syncs more.
+/// Plans that files get other lengths, come or go, and pages of theirs become durable with that, all at once: of a store with a pool. Each file that a size names has
+/// its length from then on, or goes; the new pages come first among the bytes, in the order of the sizes, then those of the list, each with zeros past its file's end then.
+/// Where fewer slots are free than it takes, all pages that stand in slots are brought home first, which takes 2 syncs more.
 ///
 /// # Errors
 ///
 /// `Device` says that the plan has more calls than the shortest of the four lists has places; as many of them are listed then. `NoPool` comes only where the
-/// image is of no store with a pool, `Memory` where there was too little; `Changes`, `Pages` and `Count` say what no commit takes.
-pub fn plan_changes(
+/// image is of no store with a pool, `BadPages`, `ReadOnly` and `NoHomes` only for sizes and pages that are so, and `Memory` where there was too little.
+pub fn plan_resize(
     alloc: Global,
     image: &[[u8; 512]],
     scratch: Scratch<'_>,
     calls: &mut [Call],
     rows: &mut [[u8; 512]],
-    updates: FileUpdates<'_>,
-) -> Result<usize, ChangeRefusal>
-    ensures changes { IfOk result (λ used. PlansChanges image.now (room_of scratch.entry.calls.now scratch.entry.rows.now calls.old rows.old) updates.entry.asked.changes.now updates.entry.asked.pages.now (lent_page updates.entry.bytes.now) calls.new rows.new used) }
-    ensures no_room { IfErr result (λ refusal. refusal ≡ ChangeRefusal.Device → AreCalls (length image.now) calls.new (room_of scratch.entry.calls.now scratch.entry.rows.now calls.old rows.old)) }
-    ensures none { IfErr result (λ refusal. refusal ≡ ChangeRefusal.NoPool → IsNoPool (length image.now) (row image.now)) }
+    updates: SizeUpdates<'_>,
+) -> Result<usize, ResizeRefusal>
+    ensures resizes { IfOk result (λ used. PlansResizing image.now (room_of scratch.entry.calls.now scratch.entry.rows.now calls.old rows.old) updates.entry.sizes.now updates.entry.pages.now (length updates.entry.bytes.now) (lent_page updates.entry.bytes.now) calls.new rows.new used) }
+    ensures no_room { IfErr result (λ refusal. refusal ≡ ResizeRefusal.Device → AreCalls (length image.now) calls.new (room_of scratch.entry.calls.now scratch.entry.rows.now calls.old rows.old)) }
+    ensures refused { IfErr result (RefusesSizesOf (length image.now) (row image.now) updates.entry.sizes.now updates.entry.pages.now (length updates.entry.bytes.now)) }
 {
-    let FileUpdates { asked, bytes } = updates;
-    let disk = begun(image, bytes, scratch, calls, rows);
-    let (disk, outcome) = change(alloc, disk, asked, bytes);
-    told(&disk, outcome, ChangeRefusal::Device, calls, rows)
+    let SizeUpdates {
+        sizes,
+        pages,
+        bytes,
+    } = updates;
+    let last = Cell::new(None);
+    let source = LentPages {
+        pages: bytes,
+        last: &last,
+    };
+    let disk = begun(image, source, scratch, calls, rows);
+    let (disk, outcome) = resize(alloc, disk, sizes, pages, source);
+    told(&disk, outcome, ResizeRefusal::Device, calls, rows)
 }

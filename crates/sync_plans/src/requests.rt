@@ -8,7 +8,7 @@ ghost use Rattle.stores.specs.Images.{StandsFor, StandsForEither, capacity_pages
 ghost use Rattle.sync_plans.specs.Pages.{lent_page};
 ghost use Rattle.sync_plans.specs.Requests.{IsStore, AreReadOnly, RefusesOn, StaysStore, OpensStore, TidiesOn, CommitsStore};
 
-use crate::lent_pages::{LentPages, PageBytes};
+use crate::lent_pages::LentPages;
 use batches::{BadBatch, check_page, check_pages};
 use disk_model::SectorDisk;
 use std::alloc::Global;
@@ -151,12 +151,12 @@ pub(crate) fn commit<D: SectorDisk + Drop>(
     alloc: Global,
     disk: D,
     pages: &[FilePage],
-    bytes: &[PageBytes<'_>],
+    mut source: LentPages<'_>,
 ) -> (D, Result<(), Refusal>)
     requires synced { D.keeps_model disk → (k : ℕ) → D.unsynced disk k → ⊥ }
-    requires bytes { length bytes.now ≡ length pages.now }
+    requires bytes { length source.pages.now ≡ length pages.now }
     ensures stays { StaysStore D.SectorDisk disk result.0 }
-    ensures commits { D.keeps_model result.0 → OnOk result.1 (CommitsStore D.SectorDisk disk result.0 pages.now (lent_page bytes.now)) }
+    ensures commits { D.keeps_model result.0 → OnOk result.1 (CommitsStore D.SectorDisk disk result.0 pages.now (lent_page source.entry.pages.now)) }
     ensures refused { IfErr result.1 (RefusesOn D.SectorDisk disk result.0
         (D.keeps_model result.0 → ArePages (file_info (D.sector_count disk) (D.content disk)) (capacity_pages (D.sector_count disk) (D.content disk)) pages.now → ⊥)
         (D.keeps_model result.0 → AreReadOnly (D.sector_count disk) (D.content disk) pages.now)) }
@@ -173,7 +173,6 @@ pub(crate) fn commit<D: SectorDisk + Drop>(
         Ok(()) => {}
         Err(_) => return (store.into_disk(), Err(Refusal::Device)),
     }
-    let mut source = LentPages { pages: bytes };
     let committed = store.commit(pages, &mut source);
     let disk = store.into_disk();
     match committed {

@@ -1,7 +1,7 @@
 //! What a commit is of.
 
 use crate::lent_pages::PageBytes;
-use pool_growth::FileChanges;
+use pool_growth::FileSize;
 use vm_types::FilePage;
 
 /// Pages, and what they become: page `pages[i]` becomes the bytes at `bytes[i]`.
@@ -11,9 +11,10 @@ pub struct PageUpdates<'a> {
     pub bytes: &'a [PageBytes<'a>],
 }
 
-/// Changes of files with pages of theirs: first the new pages, in the order of the changes, and then those of the list become the bytes at `bytes`.
+/// Sizes that files get, with pages of theirs: first the new pages of each, in the order of the sizes, and then those of the list become the bytes at `bytes`.
 #[derive(Clone, Copy)]
-pub struct FileUpdates<'a> {
-    pub asked: FileChanges<'a>,
+pub struct SizeUpdates<'a> {
+    pub sizes: &'a [FileSize],
+    pub pages: &'a [FilePage],
     pub bytes: &'a [PageBytes<'a>],
 }

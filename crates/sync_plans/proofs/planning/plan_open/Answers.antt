@@ -10,7 +10,7 @@ told-requires-clause-caused c = IfErr-weaker c.open-disk.result.1 _ _ (λ refusa
 pub returns-clause-opens : goal.returns-clause-opens
 returns-clause-opens c = IfOk-weaker c.told.result _ _
     (λ used made.
-    let begins = c.begun-disk.ensures in
+    let begins = rw c.none.ensures at c.begun-disk.ensures in
     let stays = c.open-disk.ensures.stays in
     let opens = IfOk-at_ok _ made.1 (c.open-disk.ensures.opens tt) in
     rw made.0 (record {

@@ -10,7 +10,7 @@ told-requires-clause-caused c = IfErr-weaker c.tidy-disk.result.1 _ _ (λ refusa
 pub returns-clause-tidies : goal.returns-clause-tidies
 returns-clause-tidies c = IfOk-weaker c.told.result _ _
     (λ used made.
-    let begins = c.begun-disk.ensures in
+    let begins = rw c.none.ensures at c.begun-disk.ensures in
     let stays = c.tidy-disk.ensures.stays in
     let tidies = IfOk-at_ok _ made.1 (c.tidy-disk.ensures.tidies tt) in
     rw made.0 (record {

@@ -21,7 +21,7 @@ returns-in-Ok-committed-clause-commits g c = λ k.
     let found = c.in-Ok.ensures in
     let frees = c.make_room_for.ensures.frees in
     let size = freed_size disk old store freed _ found frees c.requires.synced in
-    let given = lent_page c.args.bytes.now in
+    let given = lent_page c.args.source.pages.now in
     let same = same_files disk old store found k1 in
     subst (λ d. CommitsStore disk old d c.args.pages.now given) (sym e) (record {
       store = found_store disk old store found k1;
@@ -49,14 +49,14 @@ pub returns-in-Ok-committed-clause-stays : goal.returns-in-Ok-committed-clause-s
 returns-in-Ok-committed-clause-stays g c =
     let disk = g.D.SectorDisk in
     subst (λ d. StaysStore disk c.args.disk d) (sym c.into_disk-disk.ensures)
-    (stays_committed disk c.args.disk c.in-Ok.store c.make_room_for.new.self _ c.in-Ok.ensures c.make_room_for.ensures.frees c.requires.synced (disk_of c.commit-committed.new.self) c.args.pages.now (lent_page c.args.bytes.now)
+    (stays_committed disk c.args.disk c.in-Ok.store c.make_room_for.new.self _ c.in-Ok.ensures c.make_room_for.ensures.frees c.requires.synced (disk_of c.commit-committed.new.self) c.args.pages.now (lent_page c.args.source.pages.now)
     c.in-Ok-check_pages.ensures.good.distinct c.commit-committed.ensures.size c.commit-committed.ensures.kept (λ k files before after left changes. c.commit-committed.ensures.any_moment k tt files before after left changes))
 
 pub returns-in-Err-committed-clause-stays : goal.returns-in-Err-committed-clause-stays
 returns-in-Err-committed-clause-stays g c =
     let disk = g.D.SectorDisk in
     subst (λ d. StaysStore disk c.args.disk d) (sym c.into_disk-disk.ensures)
-    (stays_committed disk c.args.disk c.in-Ok.store c.make_room_for.new.self _ c.in-Ok.ensures c.make_room_for.ensures.frees c.requires.synced (disk_of c.commit-committed.new.self) c.args.pages.now (lent_page c.args.bytes.now)
+    (stays_committed disk c.args.disk c.in-Ok.store c.make_room_for.new.self _ c.in-Ok.ensures c.make_room_for.ensures.frees c.requires.synced (disk_of c.commit-committed.new.self) c.args.pages.now (lent_page c.args.source.pages.now)
     c.in-Ok-check_pages.ensures.good.distinct c.commit-committed.ensures.size c.commit-committed.ensures.kept (λ k files before after left changes. c.commit-committed.ensures.any_moment k tt files before after left changes))
 
 pub returns-in-Err-make_room_for-clause-stays : goal.returns-in-Err-make_room_for-clause-stays

@@ -5,7 +5,7 @@ pub returns-clause-lent : goal.returns-clause-lent
 returns-clause-lent c = λ three.
     let s = c.args.self.now in
     let inside : c.args.k < length s.calls.now = omega (arith, c.requires, s.within, s.long) in
-    is_lent s.lent.now _ (s.sources.lent c.args.k _ c.requires (slice_get-get_or s.calls.now c.args.k (record { kind = 0; sector = 0; from = 0 }) inside) three)
+    is_lent s.lent.pages.now _ (s.sources.lent c.args.k _ c.requires (slice_get-get_or s.calls.now c.args.k (record { kind = 0; sector = 0; from = 0 }) inside) three)
 
 pub returns-clause-copied : goal.returns-clause-copied
 returns-clause-copied c = λ more.

@@ -1,0 +1,132 @@
+//! Changes of files that make of them what a caller says.
+ghost use Rattle.std.specs.Prelude.{◌≡◌, ◌<◌, ◌≤◌, ◌≢◌, ◌^◌, length, IfErr, IfOk, IsTrue, IsFalse, MatchOption, slice_get, Some};
+ghost use Rattle.std.specs.List.{AllPairs, All};
+ghost use Rattle.directories.specs.Homes.{pages_of_length};
+ghost use Rattle.directories.specs.Layouts.{entry_in};
+ghost use Rattle.growth.specs.Room.{HasNoRoom};
+ghost use Rattle.pool_growth.specs.Sizes.{entry_or_empty, room_behind, AreSizes, AreSizesRefused, IsProposed, ProposesChanges};
+ghost use Rattle.pool_store.specs.Store.{IsReadyPool};
+ghost use Rattle.vm_types.specs.Limits.{file_limit};
+
+use crate::faults::BadSizes;
+use crate::sizes::FileSize;
+use directories::{EXTENTS, Entry, Extent};
+use disk_model::SectorDisk;
+use growth::{Change, Homes, resize};
+use pool_store::{Directory, PoolStore};
+use std::alloc::Global;
+use vm_types::FILES;
+
+/// An entry of no extents.
+const EMPTY: Entry = Entry {
+    read_only: false,
+    length: 0,
+    extent_count: 0,
+    extents: [Extent { first: 0, count: 0 }; EXTENTS],
+};
+
+/// The changes that make files of a store what these sizes say: each file that gets longer keeps the homes that it has, and where they are too few it gets one more
+/// extent of free ones, as `growth::resize` finds it.
+///
+/// # Errors
+///
+/// `Form` comes only where no directory like this one takes sizes like these, `NoHomes` only where there is no room for a file that is there then, beside what the sizes
+/// before it take, and `Memory` where there was too little.
+pub fn propose_changes<D: SectorDisk>(
+    alloc: Global,
+    store: &PoolStore<D>,
+    sizes: &[FileSize],
+) -> Result<Vec<Change>, BadSizes>
+    requires ready { IsReadyPool D.SectorDisk store.now }
+    ensures proposes { IfOk result (λ changes. ProposesChanges store.now.journal.sizes.homes store.now.directory sizes.now changes.items) }
+    ensures refused { IfErr result (AreSizesRefused store.now.journal.sizes.homes store.now.directory sizes.now) }
+{
+    let directory = &store.directory;
+    if !are_sizes(directory.entries.len(), sizes) {
+        return Err(BadSizes::Form);
+    }
+    let room = Homes {
+        first: directory.pages,
+        end: store.journal.sizes().homes,
+    };
+    let mut changes = Vec::with_capacity(alloc, sizes.len())?;
+    for size in sizes {
+        match change_for(directory, &changes, size, room) {
+            Some(change) => changes.push_reserved(change),
+            None => return Err(BadSizes::NoHomes(size.file)),
+        }
+    }
+    Ok(changes)
+}
+
+/// The change that makes of a file what a size says, beside others.
+fn change_for(
+    directory: &Directory,
+    done: &[Change],
+    size: &FileSize,
+    room: Homes,
+) -> Option<Change>
+    requires { length directory.now.entries.items ≤ 4096 }
+    ensures { MatchOption result ((size.now.is_there ≢ 0) × HasNoRoom directory.now.entries.items done.now (entry_or_empty (entry_in directory.now.entries.items size.now.file)) (pages_of_length size.now.length) room)
+        (IsProposed directory.now.entries.items room done.now size.now) }
+{
+    if size.is_there == 0 {
+        return Some(Change {
+            file: size.file,
+            entry: None,
+        });
+    }
+    let entry = entry_or_empty(directory, size.file as usize);
+    let length = u64::from(size.length);
+    match resize(&directory.entries, done, &entry, length, room) {
+        Some(entry) => Some(Change {
+            file: size.file,
+            entry: Some(entry),
+        }),
+        None => None,
+    }
+}
+
+/// The entry of a file, or an empty one where it is not there.
+fn entry_or_empty(directory: &Directory, file: usize) -> Entry
+    ensures { result ≡ entry_or_empty (entry_in directory.now.entries.items file) }
+{
+    match directory.entry(file) {
+        Some(entry) => *entry,
+        None => EMPTY,
+    }
+}
+
+/// Whether a directory of so many entries takes sizes like these: their files rise, and each has its place in it and a number below 64.
+fn are_sizes(entries: usize, sizes: &[FileSize]) -> bool
+    ensures all { IsTrue result → AreSizes entries sizes.now }
+    ensures one { IsFalse result → AreSizes entries sizes.now → ⊥ }
+{
+    rise(sizes) && fit(entries, sizes)
+}
+
+/// Whether the files of these sizes rise.
+fn rise(sizes: &[FileSize]) -> bool
+    ensures all { IsTrue result → AllPairs (λ s t. s.file < t.file) sizes.now }
+    ensures one { IsFalse result → AllPairs (λ s t. s.file < t.file) sizes.now → ⊥ }
+{
+    for i in 1..sizes.len() {
+        if sizes[i].file <= sizes[i - 1].file {
+            return false;
+        }
+    }
+    true
+}
+
+/// Whether each file of these sizes has its place in a directory of so many entries, and a number below 64.
+fn fit(entries: usize, sizes: &[FileSize]) -> bool
+    ensures all { IsTrue result → All (λ s. (s.file < entries) × (s.file < file_limit)) sizes.now }
+    ensures one { IsFalse result → AreSizes entries sizes.now → ⊥ }
+{
+    for size in sizes {
+        if size.file as usize >= entries.min(FILES) {
+            return false;
+        }
+    }
+    true
+}

@@ -1,0 +1,13 @@
+//! What is to become of files.
+
+/// What a file is from then on: a caller says no more of it, and its extents are found for it.
+#[repr(C)]
+#[derive(Clone, Copy, Debug, PartialEq, Eq)]
+pub struct FileSize {
+    /// Its number.
+    pub file: u32,
+    /// 0 where it goes, and any other number where it is there.
+    pub is_there: u32,
+    /// In bytes. Of a file that goes nothing is said by it.
+    pub length: u32,
+}
