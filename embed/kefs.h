@@ -1,10 +1,10 @@
-/* kefs.h, version 1.1: failure-atomic msync on a program's own memory (Park, Kelly and Shen, "Failure-Atomic msync()",
-   EuroSys 2013), over the proved plans of libfamsync.a. An image is one host file that holds up to 64 files of fixed
-   lengths, under 2^32 bytes each (docs/FORMATS.md). A program maps some of them, stores to the memory, and commits
-   what it has stored. New images are of layout 4, and those of layout 2 are opened too; one of layout 3 is KEFS_NOT_IMAGE, and
+/* kefs.h, version 1.2: failure-atomic msync on a program's own memory (Park, Kelly and Shen, "Failure-Atomic msync()",
+   EuroSys 2013), over the proved plans of libfamsync.a. An image is one host file that holds up to 64 files of under 2^32 bytes
+   each (docs/FORMATS.md). A program maps some of them, stores to the memory, gives them other lengths, makes and removes some, and
+   commits what it has done. New images are of layout 4. Those of layout 2 are opened too, and their files have fixed lengths; one of layout 3 is KEFS_NOT_IMAGE, and
    `kefscheck upgrade OLD NEW` makes one of layout 4 of it.
 
-   After a commit has returned KEFS_OK each page that it took is durable, in all files at once. After a crash or a
+   After a commit has returned KEFS_OK each page and each length that it took is durable, in all files at once. After a crash or a
    power cut at any moment the files are as after some prefix of the commits, each of them whole, and no commit that
    returned KEFS_OK is missing. That a plan of device calls does so is proved; that this library makes the calls of
    the plan and finds each dirty page is C, and tested. All of it rests on a host file that no other program writes
@@ -32,7 +32,7 @@
    kefs_commit_start, and a kefs_commit_wait that joins it, come while another kefs_commit_wait makes its device calls.
    kefs_mark_dirty and kefs_touch do not wait for it, and come only while their bytes are mapped. Calls on different
    images do not wait for each other. Stores to mapped memory may go on during any call but kefs_rollback of the same
-   bytes and the kefs_close or kefs_unmap of their file; no call may run beside the kefs_close of its image. Of a page
+   bytes, a kefs_resize that cuts them off, and the kefs_close or kefs_unmap of their file; no call may run beside the kefs_close of its image. Of a page
    that is stored to while kefs_commit runs, any mix of older and newer bytes becomes durable, and the page stays dirty:
    the next commit takes it again. So a program that wants whole transactions holds its own lock over its stores and
    over kefs_commit. No call may be made in a signal handler. No call is a cancellation point of pthread_cancel, and
@@ -67,7 +67,7 @@ extern "C" {
 #endif
 
 #define KEFS_VERSION_MAJOR 1
-#define KEFS_VERSION_MINOR 1
+#define KEFS_VERSION_MINOR 2
 #define KEFS_VERSION_PATCH 0
 /* 1,000,000 * major + 1,000 * minor + patch. */
 #define KEFS_VERSION_NUMBER (KEFS_VERSION_MAJOR * 1000000 + KEFS_VERSION_MINOR * 1000 + KEFS_VERSION_PATCH)
@@ -119,14 +119,15 @@ const char *kefs_errmsg(const kefs_image *image);
 /* Flags of a file. */
 enum {
   KEFS_FILE_READ_ONLY = 1, /* no program may store to it */
-  KEFS_FILE_SPARSE = 2     /* its length is a bound: a page takes room on the device as commits need it, and so does the
+  KEFS_FILE_SPARSE = 2,    /* its length is a bound: a page takes room on the device as commits need it, and so does the
                               pool of an image that has such a file */
+  KEFS_FILE_GROWS = 4      /* of KEFS_CREATE: an image that is there may have the file with any length */
 };
 
 /* A file of a new image. */
 struct kefs_file {
-  uint32_t length;     /* in bytes, 0 to 4,294,967,295; it never changes */
-  uint32_t flags;      /* some of KEFS_FILE_READ_ONLY and KEFS_FILE_SPARSE, or 0 */
+  uint32_t length;     /* in bytes, 0 to 4,294,967,295; kefs_resize changes it */
+  uint32_t flags;      /* some of KEFS_FILE_READ_ONLY, KEFS_FILE_SPARSE and KEFS_FILE_GROWS, or 0 */
   const void *content; /* `length` bytes, or NULL: zeros */
 };
 
@@ -155,7 +156,8 @@ enum {
   KEFS_TRACK_CALLER = 16,
   KEFS_LAZY = 32,         /* reads a page when it is first touched */
   KEFS_CREATE = 64,       /* of kefs_open_with: makes the image where nothing is at the path */
-  KEFS_SNAPSHOT = 128     /* reads only, beside one writer and any readers: the files as after some commit */
+  KEFS_SNAPSHOT = 128,    /* reads only, beside one writer and any readers: the files as after some commit */
+  KEFS_NAMES = 256        /* with KEFS_CREATE: makes an image whose files have names, and has none yet */
 };
 
 /* KEFS_LAZY. kefs_map reads no page, but of layout 2 those of the journal, and memory is taken for the pages that are touched
@@ -204,9 +206,10 @@ struct kefs_options {
 };
 
 /* kefs_open with options. With KEFS_CREATE, where nothing is at `path`, the image is made first, as kefs_format does
-   it; an image that is there has to have these files, and no others, of these lengths.
-   EINVAL: as of kefs_open and of kefs_format, KEFS_CREATE to read or without options, a pool of over 2,064,384 pages, or a `size` that is less
-   than that of version 1.0. KEFS_OTHER_FILES: the image that is there has other files, lengths, or files that may only be read.
+   it; an image that is there has to have these files, and no others, of these lengths, but for those with KEFS_FILE_GROWS. With KEFS_NAMES besides
+   `count` is 0; a new image has no file but that of the names, and one that is there has to have names, and may have any files.
+   EINVAL: as of kefs_open and of kefs_format, KEFS_CREATE to read or without options, KEFS_NAMES without KEFS_CREATE or with files, a pool of over
+   2,064,384 pages, or a `size` that is less than that of version 1.0. KEFS_OTHER_FILES: the image that is there has other files, lengths, files that may only be read, or no names.
    Other results as of kefs_open and, with KEFS_CREATE, of kefs_format. */
 int kefs_open_with(kefs_image **image, const char *path, unsigned flags, const struct kefs_options *options);
 
@@ -222,15 +225,90 @@ int kefs_close(kefs_image *image);
    not of a read-only file or of an image that was opened to read. *at is NULL for an empty file. Of a mapped file the mapping that is
    there is given. `length` may be NULL.
    KEFS_NO_FILE: no such file. EINVAL: `wanted` is no multiple of 4,096. EEXIST: something is mapped there, or the
-   file is mapped elsewhere.
+   file is mapped elsewhere. EBUSY: the file of an image's names, where that is open to write.
    ENOMEM. KEFS_DEVICE: a read failed. */
 int kefs_map(kefs_image *image, unsigned file, void *wanted, void **at, size_t *length);
 
-/* Unmaps a file. What was not committed of it is lost. KEFS_NO_FILE: it is not mapped. */
+/* kefs_map, with addresses that are kept for `most` bytes of the file: so far it may grow while it is mapped, and stays where it is. (kefs_map
+   keeps those of the pages that the file has. Where it has more durably, since kefs_resize made it shorter, either call keeps those of all of
+   these, which a roll back brings back.) They take no memory, and a touch where the file has no page is a SIGBUS, as past the end of any mapped
+   file. No file gets longer than 4,294,967,295 bytes, and for more no addresses are kept. Of an empty file *at is not NULL then, unless `most`
+   is 0.
+   EEXIST: as of kefs_map, or the file is mapped with addresses for fewer bytes. Other results as of kefs_map. */
+int kefs_map_growing(kefs_image *image, unsigned file, void *wanted, size_t most, void **at, size_t *length);
+
+/* Unmaps a file. What was not committed of it is lost, its length too: a new one is as it was made (kefs_add_file). KEFS_NO_FILE: it is not mapped. */
 int kefs_unmap(kefs_image *image, unsigned file);
 
-/* The length of a file in bytes. KEFS_NO_FILE: no such file. */
+/* The length of a file in bytes, as kefs_resize has left it. KEFS_NO_FILE: no such file. */
 int kefs_length(kefs_image *image, unsigned file, size_t *length);
+
+/* Gives a file another length, as ftruncate(2) does: for this handle at once, and durably with the next commit that takes it, together with all
+   else that this commit takes. That is one of all mapped files, or one with a range that has a byte of the addresses that are kept for the
+   file's mapping. A file that is not mapped may get another length too.
+
+   Where the file gets longer the bytes are zeros, also where some were cut off before, and of a mapped file the memory is there when the call
+   returns. Where it gets shorter pages are gone from the memory. No other thread may use these bytes meanwhile, nor those of the last page
+   behind the shorter length. An image that has no room for the file gets a longer host file, sparse, and keeps it.
+
+   A commit that takes a length takes all *new* pages of the file, those behind the last one that is durable, whatever the ranges. They may be
+   any number: slots are not needed for them, and without these it takes a sync more. Of the other pages it takes the dirty ones of its ranges; and
+   the last one, where that is not full and the file gets longer, as it is durable if no range has it; and of a file that is not mapped
+   those that were cut off and are zeros now. kefs_count_dirty counts all of these. kefs_commit_start of a length makes it durable before it
+   returns, after all that was started, and may have any result of kefs_commit. kefs_rollback of all, or of such a range, takes the length back,
+   and what was cut off is as the last commit has it. kefs_unmap and kefs_close lose a length that was not committed.
+
+   KEFS_NO_FILE: no such file. KEFS_READ_ONLY: the image was opened to read, or the file may only be read. EOPNOTSUPP: the image is of layout 2.
+   EFBIG: over 4,294,967,295 bytes; over 2^30 pages of all files; a host file that is longer than its file system or the process (ulimit -f) may
+   have; or the file lies in 30 parts, and gets no more. (It gets one more each time it doubles.) ENOMEM: the mapping keeps addresses for fewer
+   bytes, or there is no memory. ENOSPC, EDQUOT, KEFS_DEVICE: the host file could not get longer, or a page not be read. Nothing was done then. */
+int kefs_resize(kefs_image *image, unsigned file, size_t length);
+
+/* Files that come and go */
+
+/* Makes a file of zeros, of a number that the image has not; and removes one. For this handle both are so at once. They are durable, all at once, with
+   the next commit of all mapped files and with all else that this takes: all that came and went since the last one, and the names. So they are
+   with a commit of a range that has a byte of a new file's mapping; it takes all pages of each new file, mapped or not.
+
+   A new file may be mapped and get other lengths before that. kefs_unmap leaves it as it was made, kefs_close loses it. kefs_rollback of all, or of
+   such a range, takes back all that came and went. A new file that is mapped then has no page any more: its mapping stays, each touch of it
+   a SIGBUS, and its number is not free, until kefs_unmap. The number of a file that was removed is free when a commit has taken that.
+   kefs_commit_start of all, or of such a range, makes all of it durable before it returns, as of a length (kefs_resize).
+
+   kefs_add_file: EINVAL: a number over 63, or for which the image's directory has no place. EEXIST: the image has the file. EBUSY: the number is not
+   free yet. EFBIG, ENOSPC, EDQUOT, ENOMEM: as of kefs_resize. kefs_remove_file: KEFS_NO_FILE. EBUSY: it is mapped. EINVAL: it is that of the
+   names. KEFS_READ_ONLY: it may only be read. Both: KEFS_READ_ONLY: the image was opened to read. EOPNOTSUPP: it is of layout 2. Nothing was done
+   then. */
+int kefs_add_file(kefs_image *image, unsigned file, size_t length);
+int kefs_remove_file(kefs_image *image, unsigned file);
+
+/* Names. The files of an image that was made with KEFS_NAMES may have names, of 1 to 255 bytes, any but zero; no two files have the same. They are the
+   bytes of file 0 (docs/FORMATS.md), which these calls alone change: kefs_map of it is EBUSY, but where the image was opened to read, and
+   kefs_resize EINVAL. For this handle names change at once; and they become durable, or are taken back, with the files that come and go (kefs_add_file), in one commit
+   with its pages. A file that kefs_add_file makes has no name. An image that was opened to read has the names that are durable, and a
+   snapshot those of its commit. Where another program has damaged them, a name that has no end, or is of no file, or of a second one, is none,
+   and the next commit that takes names writes it so.
+
+   All of them: EOPNOTSUPP: the image has no names. EINVAL: an empty name. ENAMETOOLONG: one of over 255 bytes. Those that change names:
+   KEFS_READ_ONLY: the image was opened to read. Nothing was done then. */
+
+/* The number of the file with this name. KEFS_NO_FILE: there is none. */
+int kefs_lookup(kefs_image *image, const char *name, unsigned *file);
+
+/* Makes a file of zeros with this name, as kefs_add_file does, of the least number that is free. EEXIST: a file has the name. ENFILE: none of the 63
+   numbers is free. EFBIG, ENOSPC, EDQUOT, ENOMEM: as of kefs_resize. */
+int kefs_create_file(kefs_image *image, const char *name, size_t length, unsigned *file);
+
+/* Gives a file another name, as rename(2) does: a file that has it is removed, as kefs_unlink does it. The file that gets it keeps its number, and may be
+   mapped. Where both names are the same nothing is done. KEFS_NO_FILE: no file has the old name. EBUSY, KEFS_READ_ONLY: the file that has the
+   new one is mapped, or may only be read. */
+int kefs_rename(kefs_image *image, const char *old_name, const char *new_name);
+
+/* Removes a file and its name. (So does kefs_remove_file.) KEFS_NO_FILE: no file has the name. EBUSY: it is mapped. KEFS_READ_ONLY: it may only be read. */
+int kefs_unlink(kefs_image *image, const char *name);
+
+/* The name of a file, for a list of all. It stays until this thread's next call of this. KEFS_NO_FILE: it has none, or there is no such file. */
+int kefs_name_at(kefs_image *image, unsigned file, const char **name);
 
 /* Commits */
 
@@ -240,11 +318,13 @@ int kefs_length(kefs_image *image, unsigned file, size_t *length);
 struct kefs_range { const void *at; size_t length; };
 
 /* Makes the dirty pages of `count` ranges durable, in all files at once, or all dirty pages where `ranges` is NULL.
-   How many they were goes to *taken, where it is not NULL; where there are none, no device call is made. Bytes of a
-   range that lie in no mapping count for nothing.
+   How many they were goes to *taken, where it is not NULL. Bytes of a range that lie in no mapping count for nothing. Lengths become durable
+   with them (kefs_resize), where `ranges` is NULL those of files that are not mapped too, and files come and go, and names change (kefs_add_file).
+   Where there is neither a page nor any of these no device call is made.
    KEFS_TOO_MANY: over 1,023 pages, or of layout 4 more than the pool has slots; nothing was done. Where more pages are taken than slots are free, the others
    are brought home first, as by kefs_tidy. The way on is to commit fewer ranges at a time, or kefs_rollback. With scan and
-   signal, and of one range or all, pages that are as they are durable are not counted here, though kefs_count_dirty counts them.
+   signal, and of one range or all, pages that are as they are durable are not counted here, though kefs_count_dirty counts them. Nor are new pages; but
+   one page is for each 16 files of which one has another length. EFBIG: as of kefs_resize, and nothing was done.
    KEFS_READ_ONLY: opened with KEFS_RDONLY or KEFS_SNAPSHOT. EINVAL: `ranges` is NULL and `count` is not 0. ENOMEM: nothing was done.
    ENOSPC, EDQUOT: there is no room on the device, where a file is sparse mostly; nothing was done, the pages are dirty
    still, and the image goes on. KEFS_NOT_IMAGE, KEFS_BAD_JOURNAL: another program has written over the host file; nothing was
@@ -290,7 +370,7 @@ enum { KEFS_BEFORE = 0, KEFS_AFTER = 1 };
 /* Recovery in place, after KEFS_DEVICE: syncs the host file, reads the journal anew as an opening does, and carries it
    out. All mappings stay where they are, with what was stored to them. *stands says what became of the commit that
    failed: KEFS_AFTER, it is durable, and of its pages those alone are dirty that were stored to since; or KEFS_BEFORE,
-   it is not, and its pages are dirty. KEFS_BEFORE too where no commit had failed; then nothing is done. `stands` may be
+   it is not, its pages are dirty, and its lengths are not durable. KEFS_BEFORE too where no commit had failed; then nothing is done. `stands` may be
    NULL.
    ENOSPC, EDQUOT, KEFS_DEVICE: the device failed again, and the image stays halted: kefs_recover may be called again.
    KEFS_NOT_IMAGE, KEFS_BAD_JOURNAL: what the device holds is no image any more. ENOMEM. */
@@ -308,7 +388,8 @@ int kefs_tidy(kefs_image *image);
 int kefs_count_dirty(kefs_image *image, const struct kefs_range *ranges, size_t count, size_t *pages);
 
 /* Brings the dirty pages of these ranges back to what is durable, all dirty pages where `ranges` is NULL: a
-   transaction that is given up. No store may be made to them meanwhile.
+   transaction that is given up. Lengths that belong to them are taken back (kefs_resize), and so are files that came or went, and names
+   (kefs_add_file). No store may be made to them meanwhile.
    EINVAL: as of kefs_commit. ENOMEM: some pages may be back and others not. */
 int kefs_rollback(kefs_image *image, const struct kefs_range *ranges, size_t count);
 
@@ -327,16 +408,24 @@ int kefs_touch(kefs_image *image, const void *at, size_t length);
 
 /* Readers beside a writer */
 
-/* Of an image that was opened with KEFS_SNAPSHOT: brings its mapped files, where they are, to what the newest commit has left,
-   and all of them at once: a commit that returned before this call is in it. *changed, which may be NULL, is 1 where a byte of them
-   may differ from before, else 0. No other thread may use the mapped memory meanwhile. After any result but KEFS_OK they are
-   as they were. Where the writer has not committed since, it waits for nobody and copies nothing; after up to 16 commits it copies the
-   pages of these, where each of them but the last was of at most 32 runs of neighbouring pages, and all of at most 2,048 pages; and else
-   it compares all used pages.
-   EINVAL: the image was not opened so. KEFS_BUSY: the wait of the opening's options, or with KEFS_NOWAIT any wait, is over.
-   EINTR: a signal came while it waited. ESTALE: the image was replaced or removed, and no name leads to it any more: the
-   way on is kefs_close and kefs_open. ENOMEM. KEFS_NOT_IMAGE, KEFS_BAD_JOURNAL: another program has cut the file or
-   written over it. ENOLCK: the file system has no locks of byte ranges. ENOSPC, EDQUOT, KEFS_DEVICE: a read or a sync failed. */
+/* Of an image that was opened with KEFS_SNAPSHOT: brings its files, where they are mapped, to what the newest commit has left, and
+   all of them at once, with their lengths: a commit that returned before this call is in it. *changed, which may be NULL, is 1
+   where a byte or a length of them may differ from before, else 0. No other thread may use the mapped memory meanwhile. After any
+   result but KEFS_OK they are as they were. Where the writer has not committed since, it waits for nobody and copies nothing;
+   after up to 16 commits it copies the pages of these, where each of them but the last was of at most 32 runs of neighbouring
+   pages, and all of at most 2,048 pages, the new ones of the last among them, which were of at most 32 runs too; and else it
+   compares all used pages.
+
+   A mapped file stays where it is. Pages that it has got are there as far as its mapping keeps addresses (kefs_map_growing;
+   kefs_map keeps those of the pages that it had), and a touch of those that were cut off is a SIGBUS. kefs_length tells the whole
+   length. Where it is more than addresses are kept for, the pages in front are mapped, and kefs_map is EEXIST: the way on is
+   kefs_unmap and kefs_map. Of a file that is there no longer no page is left, kefs_map and kefs_length are KEFS_NO_FILE, and its
+   pages are there again if it comes again.
+   EINVAL: the image was not opened so. KEFS_BUSY: the wait of the opening's options, or with KEFS_NOWAIT any wait, is over. EINTR:
+   a signal came while it waited. ESTALE: the image was replaced or removed, and no name leads to it any more: the way on is
+   kefs_close and kefs_open. ENOMEM. EFBIG: the image has got longer, and the process may have no file as large (ulimit -f).
+   KEFS_NOT_IMAGE, KEFS_BAD_JOURNAL: another program has cut the file or written over it. ENOLCK: the file system has no locks of
+   byte ranges. ENOSPC, EDQUOT, KEFS_DEVICE: a read or a sync failed. */
 int kefs_refresh(kefs_image *image, int *changed);
 
 /* Backup */
@@ -358,7 +447,8 @@ struct kefs_stat {
   uint32_t most_pages;      /* that every commit may take: 1,023, or of layout 4 as many as the pool has slots, 4,032 */
   uint64_t pages;           /* home pages of the image, those of no file included */
   uint64_t recovered;       /* pages that the opening brought from the journal to their homes: of layout 4 none */
-  uint64_t commits;         /* since the opening, as are the next three: commits that took a page and returned KEFS_OK; those that went as one count once */
+  uint64_t commits;         /* since the opening, as are the next three: commits that took a page or a length, and returned KEFS_OK; those that went
+                               as one count once */
   uint64_t committed_pages; /* pages that they took */
   uint64_t written_bytes;   /* bytes written to the host file */
   uint64_t syncs;           /* syncs of the host file */

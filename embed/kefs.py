@@ -8,9 +8,15 @@
         with image.transaction():                # committed at its end, rolled back where an exception leaves it
             accounts[0:8] = (1).to_bytes(8, "little")
 
-An errno value is raised as OSError, each other result as an exception of its own, all of them of class Error. When its image is closed or
-its file unmapped, the memoryview that map() gave is released, so that Python refuses each use of it; but where others were made of it
-that still live, as slices and arrays, closing and unmapping are refused with BufferError, and nothing was done. An image that is dropped is
+    with kefs.open("notes.img", names=True) as image:   # files that have names, and come and go
+        with image.transaction():
+            image.create_file("draft", 5000)
+            image.map(image.lookup("draft"), most=1 << 30)[:5] = b"hello"
+            image.rename("draft", "note")
+
+An errno value is raised as OSError, each other result as an exception of its own, all of them of class Error. When its image is closed, its
+file unmapped or given another length, the memoryview that map() gave is released, so that Python refuses each use of it; but where others were made of it
+that still live, as slices and arrays, these calls are refused with BufferError, and nothing was done. An image that is dropped is
 closed with the last view of it. A child of os.fork has no image: its memoryviews are released, and what was made of them is of zeros that no commit takes.
 A call that a signal interrupts goes on after Python's handler, unless that raises.
 The library is looked for as the environment's KEFS_LIBRARY says, beside this file, and where the system has libraries."""
@@ -30,7 +36,8 @@ from typing import NamedTuple
 RDONLY, NOWAIT, TRACK_SCAN, TRACK_SIGNAL, TRACK_CALLER, LAZY, SNAPSHOT = 1, 2, 4, 8, 16, 32, 128
 PAGE, MOST_PAGES = 4096, 1023  # of one commit of layout 2; stat() says how many of any image
 BEFORE, AFTER = 0, 1
-_CREATE = 64
+_CREATE, _NAMES = 64, 256
+_FILES = 64
 
 
 class Error(Exception):
@@ -100,12 +107,13 @@ ERRORS = {error.result: error for error in Error.__subclasses__()}
 
 class File(NamedTuple):
     """A file of a new image: `length` bytes, which are those of `content` with zeros after them. A sparse one takes room on the device
-    as its pages are committed."""
+    as its pages are committed. An image that is there may have one that grows with any length."""
 
     length: int
     read_only: bool = False
     content: bytes = b""
     sparse: bool = False
+    grows: bool = False
 
 
 class _File(ctypes.Structure):
@@ -132,7 +140,16 @@ _CALLS = {
     "kefs_open_with": (ctypes.c_void_p, ctypes.c_char_p, ctypes.c_uint, ctypes.c_void_p),
     "kefs_close": (ctypes.c_void_p,),
     "kefs_map": (ctypes.c_void_p, ctypes.c_uint, ctypes.c_void_p, ctypes.c_void_p, ctypes.c_void_p),
+    "kefs_map_growing": (ctypes.c_void_p, ctypes.c_uint, ctypes.c_void_p, ctypes.c_size_t, ctypes.c_void_p, ctypes.c_void_p),
     "kefs_unmap": (ctypes.c_void_p, ctypes.c_uint),
+    "kefs_resize": (ctypes.c_void_p, ctypes.c_uint, ctypes.c_size_t),
+    "kefs_add_file": (ctypes.c_void_p, ctypes.c_uint, ctypes.c_size_t),
+    "kefs_remove_file": (ctypes.c_void_p, ctypes.c_uint),
+    "kefs_lookup": (ctypes.c_void_p, ctypes.c_char_p, ctypes.c_void_p),
+    "kefs_create_file": (ctypes.c_void_p, ctypes.c_char_p, ctypes.c_size_t, ctypes.c_void_p),
+    "kefs_rename": (ctypes.c_void_p, ctypes.c_char_p, ctypes.c_char_p),
+    "kefs_unlink": (ctypes.c_void_p, ctypes.c_char_p),
+    "kefs_name_at": (ctypes.c_void_p, ctypes.c_uint, ctypes.c_void_p),
     "kefs_length": (ctypes.c_void_p, ctypes.c_uint, ctypes.c_void_p),
     "kefs_commit": (ctypes.c_void_p, ctypes.c_void_p, ctypes.c_size_t, ctypes.c_void_p),
     "kefs_commit_start": (ctypes.c_void_p, ctypes.c_void_p, ctypes.c_size_t, ctypes.c_void_p, ctypes.c_void_p),
@@ -188,7 +205,7 @@ def _array(files):
     array = (_File * len(specs))()
     for entry, spec in zip(array, specs):
         content = bytes(spec.content).ljust(spec.length, b"\0") if spec.content else None
-        entry.length, entry.flags, entry.content = spec.length, spec.read_only | spec.sparse << 1, content
+        entry.length, entry.flags, entry.content = spec.length, spec.read_only | spec.sparse << 1 | spec.grows << 2, content
     return array
 
 
@@ -212,6 +229,12 @@ def _libc():
     libc.mmap.argtypes = (ctypes.c_void_p, ctypes.c_size_t, ctypes.c_int, ctypes.c_int, ctypes.c_int, ctypes.c_long)
     libc.madvise.argtypes = (ctypes.c_void_p, ctypes.c_size_t, ctypes.c_int)
     return libc
+
+
+def _put_zeros(at, length):
+    """Maps zeros where a view may look and no mapped file is any more."""
+    fixed, opened = mmap.MAP_PRIVATE | mmap.MAP_ANONYMOUS | 0x4000 | 0x10, mmap.PROT_READ | mmap.PROT_WRITE  # MAP_NORESERVE, MAP_FIXED
+    _libc().mmap(at, length, opened, fixed, -1, 0)
 
 
 class _Handle:
@@ -277,6 +300,12 @@ class _Mapped:
         if any(mine > others for mine, others in zip(self.counts(), unused.counts())):
             raise BufferError("a view of the mapped file is still in use")
 
+    def zero_from(self, length):
+        """Puts zeros in the place of the pages behind so many bytes, where nothing is: a touch would end the process."""
+        first = -(-length // PAGE) * PAGE
+        if first < self.length:
+            _put_zeros(self.at + first, self.length - first)
+
     def release(self):
         """Releases the memoryview. BufferError: an array has it."""
         if self.view is not None:
@@ -296,14 +325,12 @@ _images = weakref.WeakSet()
 
 def _leave_parent():
     """In a child of os.fork: zeros take the place of the mapped memory, where a view that lives may look."""
-    libc = _libc()
     for image in list(_images):
         image._lock, image._waits = threading.RLock(), 0
         image._idle = threading.Condition(image._lock)
         for mapped in image._mapped.values():
             if mapped.at:
-                fixed, closed = mmap.MAP_PRIVATE | mmap.MAP_ANONYMOUS | 0x4000 | 0x10, mmap.PROT_READ | mmap.PROT_WRITE  # MAP_NORESERVE, MAP_FIXED
-                libc.mmap(mapped.at, mapped.length, closed, fixed, -1, 0)
+                _put_zeros(mapped.at, mapped.length)
             with contextlib.suppress(BufferError):
                 mapped.release()
 
@@ -314,14 +341,17 @@ os.register_at_fork(after_in_child=_leave_parent)
 class Image:
     """An open image. It is closed by close(), or at the end of a `with`. Threads may share it: a call waits for the one before, but not for that of Started.wait()."""
 
-    def __init__(self, path, flags=0, wait=0, create=None, permissions=0o600, pool=0):
+    def __init__(self, path, flags=0, wait=0, create=None, permissions=0o600, pool=0, names=False):
         handle, options = ctypes.c_void_p(), _Options(size=ctypes.sizeof(_Options), wait=wait, permissions=permissions, pool=pool)
         self._handle, self._mapped, self._lock, self._wait = None, {}, threading.RLock(), wait
         self._waits, self._idle = 0, threading.Condition(self._lock)  # threads that wait for commits, beside other calls
+        self._resized = set()  # files that a roll back may give another length
         end = time.monotonic() + wait / 1000
         if create is not None:
             array, flags = _array(create), flags | _CREATE
             options.files, options.count = ctypes.cast(array, ctypes.c_void_p), len(array)
+        if names:
+            flags |= _CREATE | _NAMES
         while (result := _library().kefs_open_with(ctypes.byref(handle), os.fsencode(path), flags, ctypes.byref(options))) == errno.EINTR:
             options.wait = wait and max(1, int(1000 * (end - time.monotonic())))
         _check(result, _last_message(), path)
@@ -339,12 +369,12 @@ class Image:
             if result != 0:
                 _check(result, "" if result == Forked.result else _library().kefs_errmsg(self._handle.at).decode(errors="replace"))
 
-    def map(self, file, wanted=None):
+    def map(self, file, wanted=None, most=0):
         """The bytes of a file as a memoryview, at the address `wanted` where it is given. It takes no store where the file or the image may
-        only be read."""
+        only be read. The file may grow up to `most` bytes while it is mapped."""
         at, length = ctypes.c_void_p(), ctypes.c_size_t()
         with self._lock:
-            self._call("kefs_map", file, wanted, ctypes.byref(at), ctypes.byref(length))
+            self._call("kefs_map_growing", file, wanted, most, ctypes.byref(at), ctypes.byref(length))
             if file not in self._mapped:
                 self._mapped[file] = _Mapped(at.value, length.value, bool(at.value) and self._is_read_only(at), self._handle)
             return self._mapped[file].whole()
@@ -367,6 +397,7 @@ class Image:
                 self._release([file])
             self._mapped.pop(file, None)  # before the memory goes, as a child of another thread's fork puts zeros where it was
             self._call("kefs_unmap", file)
+            self._resized.discard(file)
 
     def length(self, file):
         """The length of a file in bytes."""
@@ -374,9 +405,82 @@ class Image:
         self._call("kefs_length", file, ctypes.byref(length))
         return length.value
 
+    def resize(self, file, length):
+        """Gives a file another length, which a commit makes durable; what it gets more is zeros. The memoryview that map() gave is released, and map() gives the
+        next one. BufferError: a view of it is in use, as a slice; nothing was done."""
+        with self._lock:
+            mapped = self._mapped.get(file)
+            if mapped is not None:
+                self._release([file])
+            self._call("kefs_resize", file, length)
+            self._resized.add(file)
+            if mapped is not None:
+                self._map_anew(file)
+
+    def _map_anew(self, file):
+        """Has the bytes of a mapped file be those that it has now. One that is not there any more, since its making was rolled back, is unmapped."""
+        at, length = ctypes.c_void_p(), ctypes.c_size_t()
+        mapped = self._mapped.pop(file)
+        try:
+            self._call("kefs_map", file, None, ctypes.byref(at), ctypes.byref(length))
+        except NoFile:
+            if mapped.at:
+                self._call("kefs_unmap", file)
+            return
+        self._mapped[file] = _Mapped(at.value, length.value, mapped.read_only, self._handle)
+
+    def add_file(self, file, length=0):
+        """Makes a file of zeros, of a number that the image has not. It comes with the next commit of all."""
+        with self._lock:
+            self._call("kefs_add_file", file, length)
+            self._resized.add(file)
+
+    def remove_file(self, file):
+        """Removes a file, which is not mapped. It goes with the next commit of all."""
+        self._call("kefs_remove_file", file)
+
+    def create_file(self, name, length=0):
+        """Makes a file of zeros with this name, of an image with names, and returns its number. It comes with the next commit of all."""
+        number = ctypes.c_uint()
+        with self._lock:
+            self._call("kefs_create_file", _name(name), length, ctypes.byref(number))
+            self._resized.add(number.value)
+            return number.value
+
+    def lookup(self, name):
+        """The number of the file with this name. NoFile: there is none."""
+        number = ctypes.c_uint()
+        self._call("kefs_lookup", _name(name), ctypes.byref(number))
+        return number.value
+
+    def rename(self, old, new):
+        """Gives a file another name. A file that has that name is removed, in the same commit."""
+        self._call("kefs_rename", _name(old), _name(new))
+
+    def unlink(self, name):
+        """Removes the file with this name, which is not mapped."""
+        self._call("kefs_unlink", _name(name))
+
+    def names(self):
+        """The numbers of the files that have names, by their names."""
+        with self._lock:
+            return {name: file for file in range(1, _FILES) if (name := self._name_at(file)) is not None}
+
+    def _name_at(self, file):
+        name = ctypes.c_char_p()
+        try:
+            self._call("kefs_name_at", file, ctypes.byref(name))
+        except NoFile:
+            return None
+        return os.fsdecode(name.value)
+
     def commit(self, *ranges):
         """Makes the dirty pages of these memoryviews durable, all at once, or all dirty pages where none is given. Returns how many."""
-        return self._counted("kefs_commit", ranges)
+        with self._lock:
+            count = self._counted("kefs_commit", ranges)
+            if not ranges:
+                self._resized.clear()
+            return count
 
     def commit_start(self, *ranges):
         """Takes the dirty pages of these memoryviews, or all of them, as they are now: a Started, whose wait() returns when they are durable. All that threads have
@@ -405,8 +509,17 @@ class Image:
         return self._counted("kefs_count_dirty", ranges)
 
     def rollback(self, *ranges):
-        """Brings the dirty pages of these ranges back to what is durable."""
-        self._call("kefs_rollback", *_ranges(ranges))
+        """Brings the dirty pages of these ranges back to what is durable, and lengths, files and names with them. The memoryviews of files that were given another
+        length, or are new, are released, and map() gives the next ones. BufferError: such a view is in use, as a slice; nothing was done."""
+        with self._lock:
+            files = [file for file in self._resized if file in self._mapped]
+            array = _ranges(ranges)
+            self._release(files)
+            self._call("kefs_rollback", *array)
+            for file in files:
+                self._map_anew(file)
+            if not ranges:
+                self._resized.clear()
 
     def recover(self):
         """Recovery in place after Device was raised: BEFORE or AFTER, as the commit that failed is not durable or is. All views stay."""
@@ -420,10 +533,32 @@ class Image:
 
     def refresh(self):
         """Of an image that was opened with SNAPSHOT: brings its views to what the newest commit has left, and says whether a byte of them may
-        differ. No other thread may use them meanwhile. Where it raises they are as they were."""
+        differ. No other thread may use them meanwhile. Where it raises they are as they were. The memoryview of a file that has another length now, or is gone, is
+        released, and map() gives the next one; where a view of it is in use, it has its length still, and zeros past the file's end."""
         changed = ctypes.c_int()
-        self._call("kefs_refresh", ctypes.byref(changed))
+        with self._lock:
+            self._call("kefs_refresh", ctypes.byref(changed))
+            for file in [file for file, mapped in self._mapped.items() if mapped.length != self._length_or_none(file)]:
+                self._let_go(file)
         return bool(changed.value)
+
+    def _length_or_none(self, file):
+        try:
+            return self.length(file)
+        except NoFile:
+            return None
+
+    def _let_go(self, file):
+        """Unmaps a file that has another length than its views, or zeros what they have more where they are in use."""
+        mapped = self._mapped[file]
+        try:
+            self._release([file])
+        except BufferError:
+            mapped.zero_from(self._length_or_none(file) or 0)
+            return
+        del self._mapped[file]
+        if mapped.at:
+            self._call("kefs_unmap", file)
 
     def backup(self, path, permissions=0o600):
         """Makes an image at `path`, where nothing may be, that is as the last commit has left this one."""
@@ -490,6 +625,14 @@ class Started:
         self._image._commit_wait(self._ticket)
 
 
+def _name(name):
+    """A name as the library takes it: bytes, of which none is zero."""
+    encoded = os.fsencode(name)
+    if b"\0" in encoded:
+        raise ValueError("a name has no zero byte")
+    return encoded
+
+
 class _Buffer(ctypes.Structure):
     """Python's Py_buffer, which says where the bytes of a view lie, of a read-only one too."""
 
@@ -514,8 +657,9 @@ def _ranges(views):
     return (array, len(views)) if views else (None, 0)
 
 
-def open(path, flags=0, wait=0, create=None, permissions=0o600, pool=0):
+def open(path, flags=0, wait=0, create=None, permissions=0o600, pool=0, names=False):
     """Opens an image: kefs.RDONLY or kefs.SNAPSHOT, kefs.NOWAIT, kefs.LAZY and a tracker are the flags. Another opening of it is waited for, at most
     `wait` milliseconds where that is not 0; with SNAPSHOT only the commit that is under way, and by each refresh() too. `create` is the files of the
-    image, as of format(), that is made where nothing is at the path, and `pool` how many slots its pool has, 4,032 where it is 0. Use it in a `with`."""
-    return Image(path, flags, wait, create, permissions, pool)
+    image, as of format(), that is made where nothing is at the path, and `pool` how many slots its pool has, 4,032 where it is 0. With `names` one is made
+    whose files have names, and that has no file yet. Use it in a `with`."""
+    return Image(path, flags, wait, create, permissions, pool, names)

@@ -8,13 +8,33 @@
 
 enum { CHUNK = 256, ROUNDS = 3 }; /* homes that are copied in one turn, and rounds over all that is late */
 
-/* The copy has layout 4. It has the homes of one of that layout, and those of an older one behind its directory, by so many later. */
-struct backup { struct kefs_image *image; struct new_file file; struct layout layout; uint32_t shift; unsigned char *late, *chunk; };
+/* The copy has layout 4. It has the homes of one of that layout, and those of an older one behind its directory, by so many later: `homes` in all, with room
+   on the device from the first where the image `is_whole`. */
+struct backup {
+  struct kefs_image *image;
+  struct new_file file;
+  struct layout layout;
+  uint32_t shift;
+  unsigned char *late, *chunk;
+  uint64_t homes;
+  int is_whole;
+};
+
+/* The first homes are the directory. */
+static void note_sizes(struct kefs_image *image) {
+  const struct resizing *resizing = &image->resizing;
+  struct new_homes it = {.image = image};
+  struct extent homes;
+  for (size_t i = 0; i < resizing->count; i++) set_bit(image->late, resizing->sizes[i].file / PAGE_ENTRIES);
+  while (next_new_homes(&it, &homes))
+    for (uint32_t i = 0; i < homes.count; i++) set_bit(image->late, (size_t)homes.first + i);
+}
 
 void note_homes(struct kefs_image *image) {
   const struct taken *taken = image->planned;
-  for (size_t i = 0; i < taken->count && image->late != NULL; i++)
-    set_bit(image->late, home_of_page(&image->files[taken->pages[i].file], taken->pages[i].page));
+  if (image->late == NULL) return;
+  for (size_t i = 0; i < taken->count; i++) set_bit(image->late, home_of_page(&image->files[taken->pages[i].file], taken->pages[i].page));
+  note_sizes(image);
 }
 
 /* Marks the homes that may hold other bytes than zeros as late: those with room in the file, and those whose pages stand elsewhere. */
@@ -82,11 +102,18 @@ static int write_older_directory(const struct backup *backup) {
   return backup->shift == 0 ? KEFS_OK : write_directory(backup->file.fd, &backup->layout, files);
 }
 
-/* The last round is one turn: what it leaves is as after one commit. */
+static off_t length_of_copy(const struct backup *backup) { return home_offset(&backup->layout, 0) + (off_t)(PAGE * backup->homes); }
+static int set_copy_length(const struct backup *backup) { return backup->homes > MOST_HOMES ? EFBIG : set_length(backup->file.fd, length_of_copy(backup)); }
+
+static void note_length(struct backup *backup) { backup->homes = backup->shift + backup->image->stat.pages; }
+
+/* The last round is one turn: what it leaves is as after one commit. Files may have got longer since the first, and so the image. */
 static int copy_last(struct backup *backup) {
   uint64_t first = 0;
-  int result = enter(backup->image), number = KEFS_OK;
+  int result = enter(backup->image);
   if (result != KEFS_OK) return result;
+  note_length(backup);
+  int number = set_copy_length(backup);
   for (size_t count; number == KEFS_OK && (count = late_homes(backup, &first)) > 0; first += count) {
     read_homes(backup, first, count);
     number = write_homes(backup, first, count, ROUNDS);
@@ -95,17 +122,13 @@ static int copy_last(struct backup *backup) {
   return leave(backup->image, number);
 }
 
-static int take_rooms_of(const struct backup *backup, off_t length) {
-  const struct kefs_image *image = backup->image;
-  int is_whole = image->roomless == NULL && !image->read_only;
-  return is_whole ? take_room(backup->file.fd, 0, length) : take_first_room(backup->file.fd, &backup->layout, 0);
+static int take_rooms_of(const struct backup *backup) {
+  return backup->is_whole ? take_room(backup->file.fd, 0, length_of_copy(backup)) : take_first_room(backup->file.fd, &backup->layout, 0);
 }
 
 static int fill_file(struct backup *backup) {
-  uint64_t homes = backup->shift + backup->image->stat.pages;
-  off_t length = home_offset(&backup->layout, 0) + (off_t)(PAGE * homes);
-  int result = homes > MOST_HOMES ? EFBIG : set_length(backup->file.fd, length);
-  if (result == KEFS_OK) result = take_rooms_of(backup, length);
+  int result = set_copy_length(backup);
+  if (result == KEFS_OK) result = take_rooms_of(backup);
   for (int round = 0; round < ROUNDS && result == KEFS_OK; round++) result = copy_late(backup, round);
   if (result == KEFS_OK && fdatasync(backup->file.fd) != 0) result = errno; /* so that the last turn is short */
   if (result == KEFS_OK) result = copy_last(backup);
@@ -113,26 +136,37 @@ static int fill_file(struct backup *backup) {
   return result == KEFS_OK ? name_file(&backup->file) : result;
 }
 
-/* From here on commits note what they change, or no longer. */
-static int watch(struct kefs_image *image, unsigned char *late) {
-  int result = enter_halted(image);
+/* From here on commits note what they change. */
+static int watch(struct backup *backup) {
+  struct kefs_image *image = backup->image;
+  int result = enter(image);
   if (result != KEFS_OK) return result;
-  image->late = late;
-  if (late != NULL && !image->halted) find_used(image);
-  return leave(image, image->halted && late != NULL ? KEFS_HALTED : KEFS_OK);
+  image->late = backup->late;
+  find_used(image);
+  note_length(backup);
+  backup->is_whole = image->roomless == NULL && !image->read_only;
+  return leave(image, KEFS_OK);
+}
+
+static void watch_no_more(struct kefs_image *image) {
+  if (enter_halted(image) != KEFS_OK) return;
+  image->late = NULL;
+  leave(image, KEFS_OK);
 }
 
 static int back_up(struct kefs_image *image, const char *path, unsigned permissions) {
   int is_older = image->layout.blocks == 0;
   struct layout layout = is_older ? pool_layout(POOL_BLOCKS, DIRECTORY_PAGES) : image->layout;
-  struct backup backup = {image, {path, NULL, -1}, layout, is_older ? DIRECTORY_PAGES : 0, new_memory(bits_bytes(image)), malloc((size_t)CHUNK * PAGE)};
+  size_t bits = bits_bytes(image);
+  struct backup backup = {.image = image, .file = {path, NULL, -1}, .layout = layout, .shift = is_older ? DIRECTORY_PAGES : 0,
+                          .late = new_memory(bits), .chunk = malloc((size_t)CHUNK * PAGE)};
   int result = backup.late == NULL || backup.chunk == NULL ? ENOMEM : KEFS_OK;
   if (result == KEFS_OK) result = begin_file(&backup.file, path, permissions);
-  if (result == KEFS_OK) result = watch(image, backup.late);
+  if (result == KEFS_OK) result = watch(&backup);
   if (result == KEFS_OK) result = fill_file(&backup);
-  watch(image, NULL);
+  watch_no_more(image);
   end_file(&backup.file);
-  drop_memory(backup.late, bits_bytes(image));
+  drop_memory(backup.late, bits);
   free(backup.chunk);
   return result;
 }

@@ -4,21 +4,34 @@
 #include <string.h>
 
 /* The pages of the mapped files that belong to some ranges, or all pages where `ranges` is NULL: one range of one file after the
-   other. */
+   other. Pages that are new, since a file got longer, are none of them (sizes.c). */
 struct spans { struct kefs_image *image; const struct kefs_range *ranges; size_t count, range; unsigned file; };
 
 static struct spans spans_of(struct kefs_image *image, const struct kefs_range *ranges, size_t count) {
   return (struct spans){image, ranges, count, 0, 0};
 }
 
-/* The pages of a mapped file that have a byte of a range: none where `first` is `end`. */
-static struct span span_of(struct mapping *mapping, const struct kefs_range *range) {
-  uintptr_t start = (uintptr_t)mapping->at, end = start + mapping->pages * PAGE;
+/* Those of the first pages of a mapped file that have a byte of a range: none where `first` is `end`. */
+static struct span span_within(struct mapping *mapping, size_t pages, const struct kefs_range *range) {
+  uintptr_t start = (uintptr_t)mapping->at, end = start + pages * PAGE;
   uintptr_t from = (uintptr_t)range->at, to = range->length > UINTPTR_MAX - from ? UINTPTR_MAX : from + range->length;
   if (from < start) from = start;
   if (to > end) to = end;
   if (from >= to) return (struct span){mapping, 0, 0};
   return (struct span){mapping, (from - start) / PAGE, (to - start + PAGE - 1) / PAGE};
+}
+
+int has_byte_of(struct mapping *mapping, const struct kefs_range *ranges, size_t count) {
+  for (size_t i = 0; i < count && mapping->at != NULL; i++) {
+    struct span span = span_within(mapping, mapping->kept, &ranges[i]);
+    if (span.first < span.end) return 1;
+  }
+  return 0;
+}
+
+static struct span span_of(struct mapping *mapping, const struct kefs_range *range) {
+  size_t durable = durable_pages(mapping->image, file_number(mapping));
+  return span_within(mapping, mapping->pages < durable ? mapping->pages : durable, range);
 }
 
 static int next_span(struct spans *it, struct span *span) {
@@ -76,30 +89,39 @@ static void let_go(struct mapping *mapping, size_t k, int done) {
   drop_mark(&mapping->marks[k], TAKEN);
 }
 
+/* A page that went along for the sake of its file's length was not taken. */
 void let_all_go(struct kefs_image *image, int done) {
   struct taken *taken = &image->taken;
-  for (size_t i = 0; i < taken->count; i++) let_go(&image->mappings[taken->pages[i].file], taken->pages[i].page, done);
+  for (size_t i = 0; i < taken->count; i++) {
+    struct mapping *mapping = &image->mappings[taken->pages[i].file];
+    if (is_taken(mapping, taken->pages[i].page)) let_go(mapping, taken->pages[i].page, done);
+  }
   taken->count = 0;
 }
 
 /* Of either kind of pages there are none where the commit is of the other. */
 void end_commit(struct kefs_image *image, int done) {
-  size_t pages = image->planned->count;
-  if (done && pages > 0) image->stat.commits++, image->stat.committed_pages += pages, note_homes(image);
+  size_t pages = image->planned->count + image->resizing.added;
+  if (done && (pages > 0 || image->resizing.count > 0)) image->stat.commits++, image->stat.committed_pages += pages, note_homes(image);
   let_all_go(image, done);
   end_running(image, done);
+  end_sizes(image, done);
 }
 
-/* Puts a page that is taken into the commit: whether it found place there. */
-static int put_page(struct mapping *mapping, size_t k) {
-  struct kefs_image *image = mapping->image;
+/* How many pages a commit may take: pages of the directory that it changes go with them. */
+static size_t most_taken(const struct kefs_image *image) { return image->places.room - image->resizing.directory; }
+
+int put_taken(struct kefs_image *image, unsigned f, size_t k) {
   struct taken *taken = &image->taken;
-  if (taken->count == image->places.room) return 0;
-  taken->pages[taken->count++] = (struct famsync_page){(uint8_t)(mapping - image->mappings), (uint32_t)k};
+  if (taken->count == most_taken(image)) return 0;
+  taken->pages[taken->count++] = (struct famsync_page){(uint8_t)f, (uint32_t)k};
   return 1;
 }
 
-int are_too_many(struct kefs_image *image) { return fail(image, KEFS_TOO_MANY, "over %zu pages are dirty", image->places.room); }
+/* Puts a page that is taken into the commit: whether it found place there. */
+static int put_page(struct mapping *mapping, size_t k) { return put_taken(mapping->image, file_number(mapping), k); }
+
+int are_too_many(struct kefs_image *image) { return fail(image, KEFS_TOO_MANY, "over %zu pages are dirty", most_taken(image)); }
 
 /* Puts the dirty pages of an area, or a part of one, into the commit. Where one stays dirty, since a range before has taken it or as one too many, the area
    stays so. */
@@ -154,11 +176,9 @@ static int may_forget(const struct kefs_image *image, const struct kefs_range *r
 
 static int is_as_durable(const struct mapping *mapping, size_t k) {
   unsigned char durable[PAGE];
-  copy_durable(mapping, k, durable);
+  copy_durable(mapping->image, file_number(mapping), k, durable);
   return memcmp(mapping->at + k * PAGE, durable, PAGE) == 0;
 }
-
-static int is_taken(const struct mapping *mapping, size_t k) { return (__atomic_load_n(&mapping->marks[k], __ATOMIC_SEQ_CST) & TAKEN) != 0; }
 
 /* Takes all dirty pages of the span, closes them, and only then compares each: a store from then on is noted. Those that differ are put into the commit, as far as
    they find place there: whether all did. */
@@ -231,16 +251,24 @@ static void put_in_order(struct kefs_image *image) {
 
 static void find_bytes(struct kefs_image *image) {
   struct taken *taken = &image->taken;
-  for (size_t i = 0; i < taken->count; i++)
-    taken->bytes[i] = (struct famsync_bytes){image->mappings[taken->pages[i].file].at + (size_t)taken->pages[i].page * PAGE};
+  for (size_t i = 0; i < taken->count; i++) {
+    const struct mapping *mapping = &image->mappings[taken->pages[i].file];
+    size_t k = taken->pages[i].page;
+    taken->bytes[i] = (struct famsync_bytes){is_taken(mapping, k) ? mapping->at + k * PAGE : edge_bytes(image, taken->pages[i].file, k)};
+  }
 }
 
 int take_pages(struct kefs_image *image, const struct kefs_range *ranges, size_t count, int may_compare) {
   int result = take(image, ranges, count);
-  if (result == KEFS_TOO_MANY && may_compare && may_forget(image, ranges, count)) result = take_all_changed(image, ranges, count);
-  if (result == KEFS_OK && !are_in_order(&image->taken)) put_in_order(image);
+  if (result == KEFS_OK) result = take_edges(image);
+  if (result == KEFS_TOO_MANY && may_compare && may_forget(image, ranges, count)) {
+    result = take_all_changed(image, ranges, count);
+    if (result == KEFS_OK) result = take_edges(image);
+  }
+  if (result != KEFS_OK) return result;
+  if (!are_in_order(&image->taken)) put_in_order(image);
   find_bytes(image);
-  return result;
+  return KEFS_OK;
 }
 
 static int plan_taken(struct kefs_image *image, struct famsync_handle *handle) {
@@ -263,7 +291,7 @@ static int read_dropped(struct kefs_image *image) {
 /* Makes the calls of a plan. Room is taken before readers are kept out, so that a plan that is refused for want of it leaves all as it was. Its handle becomes the
    image's with its first call: a plan that is given up before it never was. Readers are let in again when the last sync is over, and not where a call has failed
    (end_change). */
-static int make_calls(struct kefs_image *image, const struct famsync_handle *handle) {
+int make_plan_calls(struct kefs_image *image, const struct famsync_handle *handle) {
   int result = read_dropped(image);
   if (result == KEFS_OK) result = take_rooms(image);
   if (result != KEFS_OK) return result;
@@ -279,7 +307,7 @@ int commit_taken(struct kefs_image *image, struct taken *taken) {
   struct famsync_handle handle = image->handle;
   image->planned = taken;
   int result = taken->count == 0 ? KEFS_OK : plan_taken(image, &handle);
-  return result == KEFS_OK && taken->count > 0 ? make_calls(image, &handle) : result;
+  return result == KEFS_OK && taken->count > 0 ? make_plan_calls(image, &handle) : result;
 }
 
 int tidy(struct kefs_image *image) {
@@ -287,7 +315,7 @@ int tidy(struct kefs_image *image) {
   image->planned = &image->none;
   if (image->layout.blocks == 0 || free_places(image) == image->places.room) return KEFS_OK;
   int result = plan_tidy(image, &handle);
-  return result == KEFS_OK ? make_calls(image, &handle) : result;
+  return result == KEFS_OK ? make_plan_calls(image, &handle) : result;
 }
 
 int make_room_for(struct kefs_image *image, size_t pages) { return has_free_places(image, pages) ? KEFS_OK : tidy(image); }
@@ -305,12 +333,13 @@ int go_on(struct kefs_image *image, int result) {
 }
 
 /* A page of a commit that failed stays taken, until kefs_recover says what became of it. */
-static int commit(struct kefs_image *image, const struct kefs_range *ranges, size_t count, size_t *taken) {
+int commit(struct kefs_image *image, const struct kefs_range *ranges, size_t count, size_t *taken) {
   ignore_reads(1);
-  int result = take_pages(image, ranges, count, 1);
-  size_t pages = image->taken.count;
-  if (result == KEFS_OK) result = make_room_for(image, pages);
-  if (result == KEFS_OK) result = commit_taken(image, &image->taken);
+  int result = take_sizes(image, ranges, count);
+  if (result == KEFS_OK) result = take_pages(image, ranges, count, 1);
+  size_t kept = image->taken.count, pages = kept + image->resizing.added;
+  if (result == KEFS_OK) result = make_room_for(image, kept + image->resizing.directory);
+  if (result == KEFS_OK) result = image->resizing.count > 0 ? commit_sizes(image) : commit_taken(image, &image->taken);
   ignore_reads(0);
   if (image->halted) result = go_on(image, result);
   if (image->halted) return result;
@@ -339,8 +368,9 @@ static int whole_span(const struct kefs_image *image, const void *at, size_t len
   if (is_forked(image)) return KEFS_FORKED;
   struct mapping *mapping = mapping_at(at);
   if (mapping == NULL || mapping->image != image) return KEFS_BAD_RANGE;
-  size_t offset = (size_t)((const unsigned char *)at - mapping->at), end = length == 0 ? 0 : (offset + length + PAGE - 1) / PAGE;
-  if (length > mapping->pages * PAGE - offset) return KEFS_BAD_RANGE;
+  size_t offset = (size_t)((const unsigned char *)at - mapping->at), bytes = pages_now(mapping) * PAGE;
+  if (offset >= bytes || length > bytes - offset) return KEFS_BAD_RANGE;
+  size_t end = length == 0 ? 0 : (offset + length + PAGE - 1) / PAGE;
   *span = (struct span){mapping, length == 0 ? 0 : offset / PAGE, end};
   return KEFS_OK;
 }
@@ -378,6 +408,7 @@ static int count_dirty(struct kefs_image *image, const struct kefs_range *ranges
     number = note_dirty(&span);
     if (number == KEFS_OK) found += count_span(&span);
   }
+  if (number == KEFS_OK) found += count_sized(image, ranges, count);
   for (it = spans_of(image, ranges, count); next_span(&it, &span);) uncount_span(&span);
   if (number != KEFS_OK) return fail(image, number, "looking for dirty pages");
   *pages = found;
@@ -393,13 +424,14 @@ int kefs_count_dirty(kefs_image *image, const struct kefs_range *ranges, size_t 
   return leave(image, result);
 }
 
-/* As the last commit of the page has it that was started or made. */
-static void copy_committed(struct mapping *mapping, size_t k) {
-  unsigned char *to = mapping->at + k * PAGE;
-  const unsigned char *started = started_bytes(mapping->image, mapping, k);
-  if (started == NULL) return copy_durable(mapping, k, to);
-  memcpy(to, started, PAGE);
-  put_end(mapping, k, to);
+/* A page that was started may have bytes past its file's end. */
+void copy_committed(struct mapping *mapping, size_t k, unsigned char *to) {
+  struct kefs_image *image = mapping->image;
+  const unsigned char *started = started_bytes(image, mapping, k);
+  if (started == NULL) return copy_durable(image, file_number(mapping), k, to);
+  size_t left = image->files[file_number(mapping)].length - k * PAGE, inside = left < PAGE ? left : PAGE;
+  memcpy(to, started, inside);
+  memset(to + inside, 0, PAGE - inside);
 }
 
 /* The marks are dropped when the stores of the roll back itself are forgotten. */
@@ -408,7 +440,7 @@ static int roll_back_span(const struct span *span) {
   int number = note_dirty(span);
   if (number != KEFS_OK) return number;
   for (size_t k = next_marked(mapping, span->first, span->end); k < span->end; k = next_marked(mapping, k + 1, span->end))
-    copy_committed(mapping, k);
+    copy_committed(mapping, k, mapping->at + k * PAGE);
   number = forget_stores(span);
   for (size_t k = next_marked(mapping, span->first, span->end); k < span->end; k = next_marked(mapping, k + 1, span->end))
     drop_mark(&mapping->marks[k], DIRTY);
@@ -425,7 +457,9 @@ int kefs_rollback(kefs_image *image, const struct kefs_range *ranges, size_t cou
     int number = roll_back_span(&span);
     if (number != KEFS_OK) result = fail(image, number, "forgetting stores");
   }
-  return leave(image, result);
+  if (result != KEFS_OK) return leave(image, result);
+  int number = roll_back_sizes(image, ranges, count);
+  return leave(image, number == KEFS_OK ? KEFS_OK : fail(image, number == EIO ? KEFS_DEVICE : number, "taking a length back"));
 }
 
 int kefs_touch(kefs_image *image, const void *at, size_t length) {

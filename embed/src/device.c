@@ -4,6 +4,7 @@
 #include <errno.h>
 #include <fcntl.h>
 #include <signal.h>
+#include <sys/mman.h>
 #include <sys/uio.h>
 #include <unistd.h>
 
@@ -28,6 +29,13 @@ int move_high(int fd) {
   close(fd);
   errno = number;
   return moved;
+}
+
+/* Kernels before 6.3 have not the flag that says that nobody runs it as a program. */
+int new_memory_file(void) {
+  enum { NO_PROGRAM = 8 };
+  int fd = memfd_create("kefs", MFD_CLOEXEC | NO_PROGRAM);
+  return move_high(fd < 0 && errno == EINVAL ? memfd_create("kefs", MFD_CLOEXEC) : fd);
 }
 
 /* Lengths */
@@ -111,11 +119,12 @@ int take_room(int fd, off_t offset, off_t length) {
 
 enum { ROOM = PAGE / SECTOR }; /* sectors of a bit of `roomless` */
 
-static int lacks_room(const struct kefs_image *image, size_t k) { return (__atomic_load_n(&image->roomless[k / 8], __ATOMIC_SEQ_CST) >> k % 8 & 1) != 0; }
+static int lacks_room(const unsigned char *roomless, size_t k) { return (__atomic_load_n(&roomless[k / 8], __ATOMIC_SEQ_CST) >> k % 8 & 1) != 0; }
 
 /* A page of layout 2 lies in two such parts. */
 int may_lack_room(const struct kefs_image *image, size_t sector) {
-  return image->roomless != NULL && (lacks_room(image, sector / ROOM) || lacks_room(image, (sector + ROOM - 1) / ROOM));
+  const unsigned char *roomless = __atomic_load_n(&image->roomless, __ATOMIC_ACQUIRE);
+  return roomless != NULL && (lacks_room(roomless, sector / ROOM) || lacks_room(roomless, (sector + ROOM - 1) / ROOM));
 }
 
 static int take_parts(struct kefs_image *image, size_t first, size_t end) {
@@ -131,7 +140,7 @@ int take_sectors(struct kefs_image *image, size_t first, size_t end) {
   int result = KEFS_OK;
   size_t last = (end + ROOM - 1) / ROOM;
   for (size_t k = first / ROOM, stop; k < last && first < end && image->roomless != NULL && result == KEFS_OK; k = stop) {
-    for (stop = k; stop < last && lacks_room(image, stop);) stop++;
+    for (stop = k; stop < last && lacks_room(image->roomless, stop);) stop++;
     if (stop > k) result = take_parts(image, k, stop);
     else stop++;
   }
@@ -140,21 +149,40 @@ int take_sectors(struct kefs_image *image, size_t first, size_t end) {
 
 static size_t sectors_of(const struct famsync_call *call) { return call->kind == FAMSYNC_SYNC ? 0 : call->kind == FAMSYNC_WRITE ? 1 : PAGE / SECTOR; }
 
-/* Where the calls of the plan from `i` on that write one behind the other end: the number of the next one. */
-static size_t run_of_calls(const struct plan *plan, size_t i, size_t *end) {
-  *end = plan->calls[i].sector;
-  for (; i < plan->used && plan->calls[i].kind != FAMSYNC_SYNC && plan->calls[i].sector == *end; i++) *end += sectors_of(&plan->calls[i]);
-  return i;
+/* How many calls from `first` on copy pages of which each lies just before the one that is copied before it. So a plan may bring home what was added to a
+   file. */
+static size_t falling_calls(const struct plan *plan, size_t first) {
+  const struct famsync_call *calls = plan->calls;
+  size_t end = first + 1;
+  if (calls[first].kind != FAMSYNC_COPY) return 1;
+  while (end < plan->used && calls[end].kind == FAMSYNC_COPY && calls[end].sector + PAGE / SECTOR == calls[end - 1].sector) end++;
+  return end - first;
 }
 
+/* Calls that write neighbouring sectors, in rising or in falling order: the number of the next one, and the sectors. */
+struct run { size_t next, sector, end; };
+
+static struct run run_of_calls(const struct plan *plan, size_t i) {
+  size_t falling = falling_calls(plan, i);
+  struct run run = {i, plan->calls[i].sector, plan->calls[i].sector};
+  if (falling > 1) return (struct run){i + falling, plan->calls[i + falling - 1].sector, plan->calls[i].sector + PAGE / SECTOR};
+  for (; run.next < plan->used && plan->calls[run.next].kind != FAMSYNC_SYNC && plan->calls[run.next].sector == run.end; run.next++)
+    run.end += sectors_of(&plan->calls[run.next]);
+  return run;
+}
+
+/* All of a run at once: a file system that gives room page by page in falling order may end in an error, since its tree of them gets too deep. */
 static int take_plan(struct kefs_image *image) {
   const struct plan *plan = &image->plan;
   int result = KEFS_OK;
-  for (size_t i = 0, end; i < plan->used && result == KEFS_OK;) {
-    size_t first = i++;
-    if (plan->calls[first].kind == FAMSYNC_SYNC) continue;
-    i = run_of_calls(plan, first, &end);
-    result = take_sectors(image, plan->calls[first].sector, end);
+  for (size_t i = 0; i < plan->used && result == KEFS_OK;) {
+    if (plan->calls[i].kind == FAMSYNC_SYNC) {
+      i++;
+      continue;
+    }
+    struct run run = run_of_calls(plan, i);
+    result = take_sectors(image, run.sector, run.end);
+    i = run.next;
   }
   return result;
 }
@@ -211,7 +239,19 @@ static size_t gather(const struct kefs_image *image, size_t first, struct iovec 
   return i - first;
 }
 
-static size_t length_of(const struct iovec *parts, int count) {
+/* The same of copies in falling order, the last one first. */
+static size_t gather_falling(const struct kefs_image *image, size_t first, struct iovec *parts, int *count) {
+  size_t falling = falling_calls(&image->plan, first), made = falling < MOST_PARTS ? falling : MOST_PARTS;
+  *count = 0;
+  for (size_t i = first + made; i-- > first;) {
+    struct iovec more = bytes_of(image, i), *last = *count == 0 ? NULL : &parts[*count - 1];
+    if (last != NULL && (char *)last->iov_base + last->iov_len == (char *)more.iov_base) last->iov_len += more.iov_len;
+    else parts[(*count)++] = more;
+  }
+  return made;
+}
+
+static size_t bytes_of_parts(const struct iovec *parts, int count) {
   size_t length = 0;
   for (int i = 0; i < count; i++) length += parts[i].iov_len;
   return length;
@@ -225,12 +265,13 @@ static int make_call(struct kefs_image *image, size_t call, struct iovec *parts,
 int carry_out(struct kefs_image *image) {
   const struct plan *plan = &image->plan;
   struct iovec parts[MOST_PARTS];
-  change_places(image, image->planned->count);
+  change_places(image, image->planned->count + image->resizing.directory + image->resizing.added);
   for (size_t i = 0; i < plan->used;) {
     int count = 0, is_sync = plan->calls[i].kind == FAMSYNC_SYNC;
-    size_t made = is_sync ? 1 : gather(image, i, parts, &count), bytes = length_of(parts, count);
+    int falls = falling_calls(plan, i) > 1;
+    size_t made = is_sync ? 1 : (falls ? gather_falling : gather)(image, i, parts, &count), bytes = bytes_of_parts(parts, count);
     let_in(image);
-    int number = make_call(image, i, parts, count, bytes);
+    int number = make_call(image, falls ? i + made - 1 : i, parts, count, bytes);
     keep_out(image);
     if (number != KEFS_OK) return halt(image, i, bytes, number);
     image->stat.written_bytes += bytes;

@@ -13,7 +13,7 @@ static struct finding found(int result, const char *format, unsigned long a, uns
 static struct finding check_file(const struct kefs_image *image, unsigned f, const struct file *file) {
   uint64_t homes = 0, first = image->layout.directory_pages;
   for (const struct extent *it = file->extents; it < file->extents + file->extent_count; homes += it++->count)
-    if ((uint64_t)it->first + it->count > home_pages(image)) return found(KEFS_NOT_IMAGE, "file %lu does not end within the image", f, 0);
+    if (it->count > 0 && (uint64_t)it->first + it->count > home_pages(image)) return found(KEFS_NOT_IMAGE, "file %lu does not end within the image", f, 0);
     else if (it->count > 0 && it->first < first) return found(KEFS_NOT_IMAGE, "file %lu has a home of the directory", f, 0);
   return homes < pages_of(file->length) ? found(KEFS_NOT_IMAGE, "file %lu has more pages than homes", f, 0) : found(KEFS_OK, "", 0, 0);
 }

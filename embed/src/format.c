@@ -50,7 +50,7 @@ static int check_files(const struct kefs_file *files, size_t count, uint64_t *ho
   if (files == NULL && count > 0) return fail(NULL, KEFS_BAD_ARGUMENT, "no files");
   *homes = DIRECTORY_PAGES;
   for (size_t f = 0; f < count; f++) {
-    if ((files[f].flags & ~(uint32_t)(KEFS_FILE_READ_ONLY | KEFS_FILE_SPARSE)) != 0) return fail(NULL, EINVAL, "flags of file %zu", f);
+    if ((files[f].flags & ~(uint32_t)(KEFS_FILE_READ_ONLY | KEFS_FILE_SPARSE | KEFS_FILE_GROWS)) != 0) return fail(NULL, EINVAL, "flags of file %zu", f);
     *homes += pages_of(files[f].length);
   }
   return *homes > MOST_HOMES ? fail(NULL, EFBIG, "%llu pages", (unsigned long long)*homes) : KEFS_OK;

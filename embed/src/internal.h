@@ -48,19 +48,21 @@ enum { DIRTY = 1, TAKEN = 2, AREA = 512 };
 /* Homes one after the other. */
 struct extent { uint32_t first, count; };
 /* An entry of the image's directory. The homes of its extents are those of its pages, in their order. */
-enum { EXTENTS = 30 };
+enum { EXTENTS = 30, PAGE_ENTRIES = 16 }; /* of a file, and entries of a page of the directory */
 struct file { int present, read_only; uint32_t length, extent_count; struct extent extents[EXTENTS]; };
 
-/* A mapped file. */
+/* A mapped file. Its first `pages` pages are memory; of the others for which addresses are kept a touch is a SIGBUS. Signal handlers may read `pages` and
+   `late` while kefs_resize changes them. */
 struct mapping {
   struct kefs_image *image;
   unsigned char *at; /* NULL: the file is not mapped */
-  size_t pages;
+  size_t pages, kept; /* that it has now, and for how many there are addresses */
+  size_t late;        /* pages in front that are read when they are first touched. All others were read, or began as zeros */
   unsigned char *marks; /* one a page, changed by atomic operations alone; */
   unsigned char *areas; /* and one of each AREA pages: 0 where the mark of none of them is DIRTY */
   uint32_t *slots; /* of a pool's page that is read when it is touched: the first sector of the slot that it had when the file was mapped, or 0; NULL: no page has one */
   int has_unread;  /* some of these may not be read yet */
-  struct file file;
+  struct file file; /* as it was durable when it was mapped. A page that is late has the home that it had then, for as long as the file has the page */
   struct region *region;
 };
 
@@ -77,11 +79,34 @@ struct turns {
   off_t state; /* the byte that says so, or 0 */
 };
 
+/* What kefs_resize has made of a file, and no commit has made durable yet (sizes.c): its length; and how many of its durable bytes are left. Of a mapped file
+   these are all: its pages tell what became of them. A file that is new is not durable, and one that is gone still is (files.c); `made` is the length that a new
+   one was made with. */
+struct size { int is_set, is_new, is_gone; uint32_t length, left, made; };
+
+/* The names of files (names.c): file 0 of an image that has them. Record f is the name of file f, zeros where it has none, and record 0 says that these are names. */
+enum { NAME = 256, NAMES_PAGES = KEFS_FILES * NAME / PAGE };
+struct names { char records[KEFS_FILES][NAME]; };
+struct named { struct names now, durable; };
+
 /* Memory that the calls of libfamsync.a cut their blocks from (heap.c): `used` bytes are, the last block from `last` on. */
 struct heap { unsigned char *at; size_t length, used, last; };
 
 /* Pages that a commit takes, and where their bytes lie: in the mapped files, or in copies. */
 struct taken { struct famsync_page *pages; struct famsync_bytes *bytes; size_t count; };
+
+/* What a commit makes of the lengths of files (sizes.c): nothing, where `count` is 0. */
+struct resizing {
+  struct famsync_size sizes[KEFS_FILES];
+  size_t count, added, directory; /* sizes; new pages of their files; and pages of the directory that change */
+  unsigned names;                 /* a bit for each page of the names that goes with it */
+  struct taken lent;              /* the pages that are taken, and the bytes of the new ones with those of these behind them */
+  unsigned char *edges;           /* a page for each file, of its edge */
+  size_t room;                    /* how many new pages there is room for, in these bytes and in plans. Other commits find it there */
+};
+
+/* What stood in the place of the image's bytes and bits before its host file got longer (growing.c). Signal handlers may still read it. */
+struct former { const unsigned char *bytes; unsigned char *roomless; size_t sectors; struct former *next; };
 
 /* Those of commits that were started (starts.c), each once, in the order of files and pages: the last of these commits, the copies, and how many threads wait for
    them. */
@@ -126,17 +151,22 @@ struct kefs_image {
   enum tracker tracker;
   int lazy;
   int faults, pagemap; /* the userfaultfd and /proc/self/pagemap, or -1 */
+  int nothing; /* an empty file in memory, or -1: a touch of a mapping of it is a SIGBUS */
   const unsigned char *bytes; /* the host file, mapped shared and never written here; of a snapshot, the copy */
   size_t sectors;
+  struct former *former;
   struct layout layout;
   unsigned char *roomless; /* a bit for each eight sectors that may have no room on the device yet, or NULL: all have */
   struct famsync_handle handle;
   struct plan scratch, plan;
   struct heap heap;
-  struct file files[KEFS_FILES];
+  struct file files[KEFS_FILES]; /* as they are durable */
+  struct size sizes[KEFS_FILES];
+  struct named *named; /* of an image that has names and is open to write, or NULL */
   struct mapping mappings[KEFS_FILES];
   struct taken taken; /* what a commit takes of the mapped files */
-  struct taken *planned; /* what the plan is of: these, the started pages that are running, */
+  struct resizing resizing;
+  struct taken *planned; /* what the plan is of: these, or those that are lent with lengths, the started pages that are running, */
   struct taken none;     /* or no page: it tidies the pool */
   struct starts starts;
   struct places places; /* what the journal or the pool has now; where it is not listed it is to be read anew */
@@ -158,10 +188,10 @@ void add_owner(struct kefs_image *image);
 void remove_owner(struct kefs_image *image);
 /* Whether this thread has this file open by a handle that keeps others out: to wait for that would never end. */
 int is_own(int fd);
-/* Makes a mapping known to mapping_at: KEFS_OK or ENOMEM. */
+/* Makes a mapping, with all its addresses, known to mapping_at: KEFS_OK or ENOMEM. */
 int add_region(struct mapping *mapping);
 void remove_region(struct mapping *mapping);
-/* The mapped file of this process that has the byte at this address, or NULL. Signal handlers may call it. */
+/* The mapped file of this process that has, or may come to have, the byte at this address, or NULL. Signal handlers may call it. */
 struct mapping *mapping_at(const void *address);
 
 /* heap.c */
@@ -183,7 +213,10 @@ int device_result(int number);
 
 /* layout.c: what docs/FORMATS.md says of an image. */
 
-static inline const unsigned char *sector_at(const struct kefs_image *image, size_t sector) { return image->bytes + SECTOR * sector; }
+/* The bytes are mapped anew where the host file gets longer, and signal handlers read them. */
+static inline const unsigned char *sector_at(const struct kefs_image *image, size_t sector) {
+  return __atomic_load_n(&image->bytes, __ATOMIC_ACQUIRE) + SECTOR * sector;
+}
 
 static inline uint32_t number_at(const unsigned char *at) {
   return at[0] | (uint32_t)at[1] << 8 | (uint32_t)at[2] << 16 | (uint32_t)at[3] << 24;
@@ -229,10 +262,9 @@ uint32_t count_of_map(const struct kefs_image *image);
 uint32_t journal_home(const struct kefs_image *image, uint32_t i);
 /* Copies the durable bytes of a home page. */
 void copy_durable_page(struct kefs_image *image, uint32_t home, unsigned char *to);
-/* Zeros past the file's end, in page `k` of a mapped file. */
-void put_end(const struct mapping *mapping, size_t k, unsigned char *page);
-/* Page `k` of a mapped file as it is durable, with zeros past the file's end. */
-void copy_durable(const struct mapping *mapping, size_t k, unsigned char *to);
+/* Page `k` of a file as it is durable, with zeros past the end that it has so. The file has such a page. */
+void copy_durable(struct kefs_image *image, unsigned f, size_t k, unsigned char *to);
+static inline size_t durable_pages(const struct kefs_image *image, unsigned f) { return (size_t)pages_of(image->files[f].length); }
 /* Whether sector 0, which has to be there, is these eight bytes again and again. */
 int has_mark(const struct kefs_image *image, const char *mark);
 
@@ -256,6 +288,8 @@ int has_free_places(struct kefs_image *image, size_t pages);
 size_t free_places(struct kefs_image *image);
 /* The first sector of what stands for a home. */
 size_t standing_sector(struct kefs_image *image, uint32_t home);
+/* Of a pool's image those of the first homes, so many of them, found without a list of all places. */
+void first_sectors(const struct kefs_image *image, uint32_t count, size_t *sectors);
 /* Has the places read anew, after calls of a plan. */
 void forget_places(struct kefs_image *image);
 
@@ -288,6 +322,8 @@ extern const char OF_LAYOUT_3[];
 int open_high(const char *path, int flags, mode_t mode);
 /* Moves a descriptor there, where it is one: the new one, or -1 and errno. */
 int move_high(int fd);
+/* A file in memory that has no name, or -1 and errno. */
+int new_memory_file(void);
 /* Each returns KEFS_OK or an errno value. */
 int set_length(int fd, off_t length);
 int write_all(int fd, const void *bytes, size_t length, off_t offset);
@@ -335,10 +371,14 @@ int read_kind(struct kefs_image *image);
 int refuse_layout_3(const struct kefs_image *image);
 /* Opens an image of any layout to read, and waits for nobody: for kefscheck. Of layout 3 its pages are read, and no more is done. */
 int open_older(kefs_image **to, const char *path);
+/* So many sectors of the host file, mapped to read, or NULL. */
+const unsigned char *map_sectors(const struct kefs_image *image, size_t sectors);
 /* Puts a copy of what an opening reads of an image in the place of its mapping, for a reader: KEFS_OK or the image's result. */
 int copy_head(struct kefs_image *image);
 /* Room for plans of this layout, and for what its commits take, which takes none before it is touched: KEFS_OK or ENOMEM. */
 int make_rooms(struct kefs_image *image);
+/* Room for a plan of so many new pages besides, more or fewer than before: KEFS_OK or ENOMEM. */
+int set_plan_rooms(struct kefs_image *image, size_t added);
 /* Carries out the journal of a host file that is settled: KEFS_OK or a result. A reader makes no call of the plan: it reads through the
    journal, and commits nothing. */
 int recover(struct kefs_image *image);
@@ -390,8 +430,8 @@ void end_snapshot(struct kefs_image *image);
 int read_snapshot(struct kefs_image *image);
 /* The file that has an image's bytes as they are read, and how many bytes it has before them. */
 int file_of_bytes(const struct kefs_image *image, off_t *before);
-/* Maps a file of it to read: KEFS_OK or an errno value. */
-int map_snapshot(struct mapping *mapping, void *wanted);
+/* Maps the pages of a file of it to read, at the addresses that are kept for them: KEFS_OK or an errno value. */
+int map_snapshot(struct mapping *mapping);
 
 /* trackers.c */
 
@@ -400,6 +440,8 @@ int begin_tracking(struct kefs_image *image, unsigned flags);
 void end_tracking(struct kefs_image *image);
 /* Reads the pages of a new mapping, or has them read later, and tracks it from here on: KEFS_OK or an errno value. */
 int load(struct mapping *mapping);
+/* Has the kernel note the stores to these pages of new memory from here on, where the tracker is the scan: KEFS_OK or an errno value. */
+int watch_stores(const struct span *span);
 /* Marks the pages that were stored to since the last look: KEFS_OK or an errno value. */
 int note_dirty(const struct span *span);
 /* Has the next store to each of these pages noted, where note_dirty has not done so. It comes after their marks were taken. */
@@ -417,14 +459,28 @@ int fill_slotted(struct kefs_image *image);
 
 static inline uint32_t order_of(const struct famsync_page *page) { return (uint32_t)page->file << 20 | page->page; }
 int check_ranges(struct kefs_image *image, const struct kefs_range *ranges, size_t count);
-/* Takes the dirty pages of these ranges, in the order of files and pages: KEFS_OK or the image's result. Where `may_compare`, pages that
-   are as they are durable are left out if that makes them few enough. */
+/* Whether a range has a byte of the addresses that are kept for a file, where it is mapped. */
+int has_byte_of(struct mapping *mapping, const struct kefs_range *ranges, size_t count);
+/* Page `k` of a mapped file as the last commit has it that was started or made. */
+void copy_committed(struct mapping *mapping, size_t k, unsigned char *to);
+/* Whether a page of a file is taken. Where the file is not mapped none is. */
+static inline int is_taken(const struct mapping *mapping, size_t k) {
+  return mapping->at != NULL && (__atomic_load_n(&mapping->marks[k], __ATOMIC_SEQ_CST) & TAKEN) != 0;
+}
+/* Takes the dirty pages of these ranges, but new ones, and the edges of the lengths that are taken, in the order of files and pages: KEFS_OK or the image's
+   result. Where `may_compare`, pages that are as they are durable are left out if that makes them few enough. */
 int take_pages(struct kefs_image *image, const struct kefs_range *ranges, size_t count, int may_compare);
 int are_too_many(struct kefs_image *image);
+/* Adds a page to those that are taken: whether it found place there. */
+int put_taken(struct kefs_image *image, unsigned f, size_t k);
 /* Lets the pages go that are taken, dirty again where it is not done. */
 void let_all_go(struct kefs_image *image, int done);
 /* Makes these pages durable: KEFS_OK or the image's result. It may be halted then. */
 int commit_taken(struct kefs_image *image, struct taken *taken);
+/* kefs_commit, behind what was started. */
+int commit(struct kefs_image *image, const struct kefs_range *ranges, size_t count, size_t *taken);
+/* Makes the calls of the image's plan, which this handle is of: KEFS_OK or the image's result. It may be halted then. */
+int make_plan_calls(struct kefs_image *image, const struct famsync_handle *handle);
 /* Brings all pages of a pool home: KEFS_OK, also where it has none, or the image's result. It may be halted then. */
 int tidy(struct kefs_image *image);
 /* Does so where fewer places are free than a commit has pages. */
@@ -433,6 +489,102 @@ int make_room_for(struct kefs_image *image, size_t pages);
 int go_on(struct kefs_image *image, int result);
 /* Ends a commit: lets its pages go, and counts it where it is done. */
 void end_commit(struct kefs_image *image, int done);
+
+/* sizes.c: what files are to be. */
+
+/* The length of a file as kefs_resize has left it, in bytes, and how many of its durable bytes it has still, of a file that is not mapped. */
+uint32_t length_of(const struct kefs_image *image, unsigned f);
+uint32_t left_of(const struct kefs_image *image, unsigned f);
+/* Gives a file the length again that is durable. */
+void forget_size(struct kefs_image *image, unsigned f);
+/* Brings a new mapping, of the pages that are left of what is durable, to the length that the file has: KEFS_OK or an errno value. */
+int fit_new_mapping(struct mapping *mapping);
+/* Notes that there is such a mapping: its pages tell what became of durable bytes. */
+void settle_size(struct kefs_image *image, unsigned f);
+/* Whether a commit of these ranges makes a length durable. */
+int has_sizes(struct kefs_image *image, const struct kefs_range *ranges, size_t count);
+/* Takes the lengths of a commit of these ranges, and the new pages: KEFS_OK or the image's result. */
+int take_sizes(struct kefs_image *image, const struct kefs_range *ranges, size_t count);
+/* Adds the edges of the lengths that are taken to the pages that are: KEFS_OK, or KEFS_TOO_MANY. And the bytes of a page of an edge. */
+int take_edges(struct kefs_image *image);
+const unsigned char *edge_bytes(struct kefs_image *image, unsigned f, size_t k);
+/* Makes these lengths durable, with the pages that are taken: KEFS_OK or the image's result. It may be halted then. */
+int commit_sizes(struct kefs_image *image);
+/* The homes of the new pages of such a commit, whose directory the image has already and `files` has not, in rows: whether there is one more. It begins as
+   the image and zeros. */
+struct new_homes { struct kefs_image *image; size_t size, page; };
+int next_new_homes(struct new_homes *it, struct extent *homes);
+/* Ends a commit of lengths, or does nothing where it is of none. */
+void end_sizes(struct kefs_image *image, int done);
+/* Lets the room go that such commits have left for the next ones. */
+void drop_sizes(struct kefs_image *image);
+/* How many pages a commit of these ranges takes for the sake of lengths. The dirty pages that it takes are taken. */
+size_t count_sized(struct kefs_image *image, const struct kefs_range *ranges, size_t count);
+/* Takes the lengths back that belong to these ranges: KEFS_OK or an errno value. */
+int roll_back_sizes(struct kefs_image *image, const struct kefs_range *ranges, size_t count);
+
+/* files.c: files that come and go. */
+
+/* Whether a file is there now; and whether it was not, or not to be, at the last commit. */
+int is_there(const struct kefs_image *image, unsigned f);
+int comes_or_goes(const struct kefs_image *image, unsigned f);
+uint32_t count_files(const struct kefs_image *image);
+/* Whether a call of these ranges is of the files that come and go, and of the names. They all go together. */
+int means_files(struct kefs_image *image, const struct kefs_range *ranges, size_t count);
+/* What becomes of a file that is unmapped: it has its durable length again, or that with which it was made. */
+void lose_size(struct kefs_image *image, unsigned f);
+/* Why no file of this number and length can be made now, or KEFS_OK; and makes it: KEFS_OK or the image's result. */
+int check_new(struct kefs_image *image, unsigned f, size_t length);
+int make_new(struct kefs_image *image, unsigned f, uint32_t length);
+/* Why a file can't go now, or KEFS_OK; and has it go. */
+int check_going(struct kefs_image *image, unsigned f);
+void let_file_go(struct kefs_image *image, unsigned f);
+/* The answer to a call that would change the files of an image that is open to read, or of layout 2, or KEFS_OK. */
+int check_files_change(const struct kefs_image *image, const char *call);
+
+/* names.c: names of files. */
+
+/* Makes an image with names, and no other file than these, as format_with_pool does. */
+int format_with_names(const char *path, unsigned permissions, uint32_t pool);
+/* Takes the names of an image that is open to write into memory, where it has them: KEFS_OK or ENOMEM. */
+int begin_names(struct kefs_image *image);
+void end_names(struct kefs_image *image);
+/* Whether this is the file of an image's names. */
+int is_names_file(const struct kefs_image *image, unsigned f);
+/* A bit for each page of them that has other bytes than it has durably. */
+unsigned pending_names(const struct kefs_image *image);
+/* Page `k` of them. */
+const unsigned char *names_page(const struct kefs_image *image, size_t k);
+/* Makes what is durable of them, or notes that these pages are durable now. */
+void roll_back_names(struct kefs_image *image);
+void settle_names(struct kefs_image *image, unsigned pages);
+/* Takes the name of a file away. */
+void clear_name(struct kefs_image *image, unsigned f);
+
+/* addresses.c: the memory of mapped files, and the addresses that are kept behind it. */
+
+/* Keeps addresses for a mapping, at those that are wanted where these are not NULL, and no memory: KEFS_OK or an errno value, as the next ones. */
+int keep_addresses(struct mapping *mapping, void *wanted);
+/* Puts memory of zeros at the addresses of these pages. It may be stored to. */
+int put_memory(const struct span *span);
+/* Takes what is there away, so that a touch is a SIGBUS. */
+int take_memory(const struct span *span);
+/* Sets the mark of each of these pages. */
+void set_marks(const struct span *span, unsigned char mark);
+/* Gives a mapping more pages, of zeros and dirty, */
+int lengthen_mapping(struct mapping *mapping, size_t pages);
+/* or more that are as the last commit has them, and clean, */
+int restore_mapping(struct mapping *mapping, size_t pages);
+/* or fewer. */
+int shorten_mapping(struct mapping *mapping, size_t pages);
+
+/* growing.c: homes for files that grow. */
+
+/* Sees to it that there are homes for the files as they are to be, in a longer host file where they are too few: KEFS_OK, or the image's result. */
+int make_homes(struct kefs_image *image);
+/* Makes the host file longer, so that each file finds the homes that it lacks in a row: KEFS_OK, or the image's result. */
+int lengthen_image(struct kefs_image *image);
+void drop_former(struct kefs_image *image);
 
 /* tidy.c */
 
@@ -458,7 +610,7 @@ static inline void keep_out(struct kefs_image *image) { if (image->starts.is_run
 
 /* backup.c */
 
-/* Notes homes that a commit has changed, for a backup that has copied them before. */
+/* Notes homes that a commit has changed, for a backup that has copied them before. Of a commit of lengths it comes before its directory is read. */
 void note_homes(struct kefs_image *image);
 
 /* kefs.c */
@@ -466,6 +618,9 @@ void note_homes(struct kefs_image *image);
 /* Memory of zeros that takes room only where it is touched, or NULL. */
 void *new_memory(size_t length);
 void drop_memory(const void *at, size_t length);
+
+/* KEFS_NO_FILE where the image has no such file. */
+int file_of(struct kefs_image *image, unsigned file);
 
 /* Takes the image's lock for a call: KEFS_OK, or the reason why there can be no call. `enter_halted` takes a halted image too, and `enter_beside` does so while
    started commits are running. */
@@ -492,12 +647,19 @@ static inline void mark_dirty(struct mapping *mapping, size_t k) {
   set_area(mapping, k, 1);
 }
 
-static inline size_t areas_of(const struct mapping *mapping) { return mapping->pages / AREA + 1; }
+static inline size_t areas_of(const struct mapping *mapping) { return mapping->kept / AREA + 1; }
 
-static inline size_t mapped_bytes(const struct kefs_image *image) { return SECTOR * image->sectors + 1; }
-/* Of a bit for each home, and for each eight sectors. */
-static inline size_t bits_bytes(const struct kefs_image *image) { return (size_t)image->stat.pages / 8 + 1; }
-static inline size_t room_bytes(const struct kefs_image *image) { return image->sectors / 64 + 1; }
+static inline unsigned file_number(const struct mapping *mapping) { return (unsigned)(mapping - mapping->image->mappings); }
+
+/* What signal handlers, and calls that take no lock, see of a mapping's pages. */
+static inline size_t pages_now(const struct mapping *mapping) { return __atomic_load_n(&mapping->pages, __ATOMIC_SEQ_CST); }
+static inline size_t late_now(const struct mapping *mapping) { return __atomic_load_n(&mapping->late, __ATOMIC_SEQ_CST); }
+
+/* Of so many sectors. */
+static inline size_t mapped_bytes(size_t sectors) { return SECTOR * sectors + 1; }
+static inline size_t room_bytes(size_t sectors) { return sectors / 64 + 1; }
+/* Of a bit for each home that the image may ever have: of layout 4 the host file gets longer where files grow. */
+static inline size_t bits_bytes(const struct kefs_image *image) { return (image->layout.blocks > 0 ? MOST_HOMES : (size_t)image->stat.pages) / 8 + 1; }
 
 static inline int bit_of(const unsigned char *bits, size_t k) { return bits[k / 8] >> k % 8 & 1; }
 static inline void set_bit(unsigned char *bits, size_t k) { bits[k / 8] |= (unsigned char)(1 << k % 8); }

@@ -50,15 +50,15 @@ void drop_memory(const void *at, size_t length) {
 /* Closing */
 
 static void drop_marks(struct mapping *mapping) {
-  drop_memory(mapping->marks, mapping->pages);
+  drop_memory(mapping->marks, mapping->kept);
   drop_memory(mapping->areas, areas_of(mapping));
-  drop_memory(mapping->slots, mapping->pages * sizeof *mapping->slots);
+  drop_memory(mapping->slots, mapping->kept * sizeof *mapping->slots);
 }
 
 /* A handler of signals finds the region by its addresses, which another mapping may have once the memory is gone. */
 static void drop_mapping(struct mapping *mapping) {
   remove_region(mapping);
-  drop_memory(mapping->at, mapping->pages * PAGE);
+  drop_memory(mapping->at, mapping->kept * PAGE);
   drop_marks(mapping);
   *mapping = (struct mapping){0};
 }
@@ -82,9 +82,13 @@ static int close_image(struct kefs_image *image) {
   drop_mappings(image, forked);
   end_tracking(image);
   end_snapshot(image);
-  drop_memory(image->bytes, mapped_bytes(image));
+  drop_memory(image->bytes, mapped_bytes(image->sectors));
+  drop_former(image);
+  drop_sizes(image);
+  end_names(image);
   drop_rooms(image);
-  drop_memory(image->roomless, room_bytes(image));
+  drop_memory(image->roomless, room_bytes(image->sectors));
+  if (image->nothing >= 0) close(image->nothing);
   if (image->fd >= 0 && !forked) end_turns(image), flock(image->fd, LOCK_UN); /* a child that still has the descriptor would hold the locks */
   if (image->fd >= 0) close(image->fd);
   if (!forked) pthread_mutex_destroy(&image->lock), pthread_mutex_destroy(&image->backups), pthread_cond_destroy(&image->starts.over);
@@ -103,69 +107,76 @@ int kefs_close(kefs_image *image) {
 
 /* Mapping */
 
-static int file_of(struct kefs_image *image, unsigned file) {
-  return file < KEFS_FILES && image->files[file].present ? KEFS_OK : fail(image, KEFS_NO_FILE, "file %u", file);
-}
-
-/* After mlockall(MCL_FUTURE) the system fills what is mapped with zeros at once, and a page that is there counts as read. So it is
-   mapped closed, and unlocked before it is opened. A child does not inherit the memory: its pages would be neither tracked
-   nor, where they are read late, read there. */
-static int map_at(struct mapping *mapping, void *wanted) {
-  int place = wanted == NULL ? 0 : MAP_FIXED_NOREPLACE;
-  size_t bytes = mapping->pages * PAGE;
-  void *at = mmap(wanted, bytes, PROT_NONE, MAP_PRIVATE | MAP_ANONYMOUS | MAP_NORESERVE | place, -1, 0);
-  if (at == MAP_FAILED) return errno;
-  mapping->at = at;
-  if (wanted != NULL && at != wanted) return EEXIST; /* kernels before 4.17 */
-  if (mapping->image->lazy && munlock(at, bytes) != 0) return errno;
-  if (mprotect(at, bytes, PROT_READ | PROT_WRITE) != 0) return errno;
-  return madvise(at, bytes, MADV_DONTFORK) == 0 ? KEFS_OK : errno;
+int file_of(struct kefs_image *image, unsigned file) {
+  return file < KEFS_FILES && is_there(image, file) ? KEFS_OK : fail(image, KEFS_NO_FILE, "file %u", file);
 }
 
 static int make_marks(struct mapping *mapping) {
-  mapping->marks = new_memory(mapping->pages);
+  mapping->marks = new_memory(mapping->kept);
   mapping->areas = new_memory(areas_of(mapping));
   return mapping->marks == NULL || mapping->areas == NULL ? ENOMEM : KEFS_OK;
 }
 
-/* The place that was asked for is taken first: the system could give it to the marks. */
-static int new_mapping(struct kefs_image *image, unsigned file, void *wanted) {
+static int fill_mapping(struct mapping *mapping) {
+  struct span all = {mapping, 0, mapping->pages};
+  if (mapping->image->snapshot != NULL) return map_snapshot(mapping);
+  int number = put_memory(&all);
+  return number == KEFS_OK ? load(mapping) : number;
+}
+
+/* The place that was asked for is taken first: the system could give it to the marks. Of what kefs_resize has made of the file that part is read which is
+   durable. */
+static int new_mapping(struct kefs_image *image, unsigned file, void *wanted, size_t kept) {
   struct mapping *mapping = &image->mappings[file];
-  *mapping = (struct mapping){.image = image, .file = image->files[file], .pages = ((size_t)image->files[file].length + PAGE - 1) / PAGE};
-  int result = image->snapshot != NULL ? map_snapshot(mapping, wanted) : map_at(mapping, wanted);
+  *mapping = (struct mapping){.image = image, .file = image->files[file], .pages = (size_t)pages_of(left_of(image, file)), .kept = kept};
+  int result = keep_addresses(mapping, wanted);
   if (result == KEFS_OK) result = make_marks(mapping);
-  if (result == KEFS_OK && image->snapshot == NULL) result = load(mapping);
+  if (result == KEFS_OK) result = fill_mapping(mapping);
+  if (result == KEFS_OK) result = fit_new_mapping(mapping);
   if (result == KEFS_OK) result = add_region(mapping);
-  if (result == KEFS_OK) return KEFS_OK;
+  if (result == KEFS_OK) return settle_size(image, file), KEFS_OK;
   drop_mapping(mapping);
   return fail(image, result == EIO ? KEFS_DEVICE : result, "mapping file %u: %s", file, kefs_strerror(result));
 }
 
-static int map_file(struct kefs_image *image, unsigned file, void *wanted) {
-  struct mapping *mapping = &image->mappings[file];
-  if ((uintptr_t)wanted % PAGE != 0) return fail(image, EINVAL, "%p is not the beginning of a page", wanted);
-  if (image->files[file].length == 0) return KEFS_OK;
-  int result = mapping->at == NULL ? commit_started(image) : KEFS_OK; /* pages of the file may be started, and are read when they are durable */
-  if (result != KEFS_OK) return result;
-  if (mapping->at == NULL) return new_mapping(image, file, wanted);
-  return wanted == NULL || wanted == mapping->at ? KEFS_OK : fail(image, EEXIST, "file %u is mapped at %p", file, (void *)mapping->at);
+/* For how many pages a mapping of a file keeps addresses, where it is to keep them for so many bytes: no file gets longer than four bytes say. */
+static size_t kept_for(const struct kefs_image *image, unsigned file, size_t most) {
+  size_t pages = (size_t)pages_of(length_of(image, file)), more = (size_t)pages_of(most < UINT32_MAX ? (uint32_t)most : UINT32_MAX);
+  size_t durable = durable_pages(image, file), least = pages > more ? pages : more;
+  return least > 0 && least < durable ? durable : least;
 }
 
-int kefs_map(kefs_image *image, unsigned file, void *wanted, void **at, size_t *length) {
+static int map_file(struct kefs_image *image, unsigned file, void *wanted, size_t most) {
+  struct mapping *mapping = &image->mappings[file];
+  size_t kept = kept_for(image, file, most);
+  if ((uintptr_t)wanted % PAGE != 0) return fail(image, EINVAL, "%p is not the beginning of a page", wanted);
+  if (is_names_file(image, file)) return fail(image, EBUSY, "file %u is the names of others", file);
+  if (mapping->at == NULL && kept == 0) return KEFS_OK;
+  int result = mapping->at == NULL ? commit_started(image) : KEFS_OK; /* pages of the file may be started, and are read when they are durable */
+  if (result != KEFS_OK) return result;
+  if (mapping->at == NULL) return new_mapping(image, file, wanted, kept);
+  if (wanted != NULL && wanted != mapping->at) return fail(image, EEXIST, "file %u is mapped at %p", file, (void *)mapping->at);
+  return kept <= mapping->kept ? KEFS_OK : fail(image, EEXIST, "file %u is mapped with addresses for %zu pages", file, mapping->kept);
+}
+
+int kefs_map_growing(kefs_image *image, unsigned file, void *wanted, size_t most, void **at, size_t *length) {
   int result = enter(image);
   if (result != KEFS_OK) return result;
   result = at == NULL ? fail(image, KEFS_BAD_ARGUMENT, "no place for the address") : file_of(image, file);
-  if (result == KEFS_OK) result = map_file(image, file, wanted);
+  if (result == KEFS_OK) result = map_file(image, file, wanted, most);
   if (result == KEFS_OK) *at = image->mappings[file].at;
-  if (result == KEFS_OK && length != NULL) *length = image->files[file].length;
+  if (result == KEFS_OK && length != NULL) *length = length_of(image, file);
   return leave(image, result);
 }
+
+int kefs_map(kefs_image *image, unsigned file, void *wanted, void **at, size_t *length) { return kefs_map_growing(image, file, wanted, 0, at, length); }
 
 int kefs_unmap(kefs_image *image, unsigned file) {
   int result = enter(image);
   if (result != KEFS_OK) return result;
   if (file >= KEFS_FILES || image->mappings[file].at == NULL) return leave(image, fail(image, KEFS_NO_FILE, "file %u", file));
   drop_mapping(&image->mappings[file]);
+  lose_size(image, file);
   return leave(image, KEFS_OK);
 }
 
@@ -173,7 +184,7 @@ int kefs_length(kefs_image *image, unsigned file, size_t *length) {
   int result = enter(image);
   if (result != KEFS_OK) return result;
   result = length == NULL ? fail(image, KEFS_BAD_ARGUMENT, "no place for the length") : file_of(image, file);
-  if (result == KEFS_OK) *length = image->files[file].length;
+  if (result == KEFS_OK) *length = length_of(image, file);
   return leave(image, result);
 }
 
@@ -188,6 +199,7 @@ int kefs_stat(kefs_image *image, struct kefs_stat *to) {
   size_t size = to->size;
   *to = image->stat;
   to->size = size;
+  to->files = count_files(image);
   to->most_pages = (uint32_t)places_of(&image->layout);
   to->tracker = names[image->tracker];
   to->lazy = (uint32_t)image->lazy;

@@ -5,7 +5,7 @@
 /* Layout 2 has one journal, layout 3, of which pages are read alone, two in turn, and layout 4 a pool. */
 static const struct layout LAYOUT_2 = {2, "FAMSYNC2", 1, 2, {0, 3}, 8195, 0, 0}, LAYOUT_3 = {3, "FAMSYNC3", 9, 16, {24, 8216}, 16408, 0, 0};
 
-enum { BLOCK_SLOTS = 504, MOST_BLOCKS = 2048, MOST_DIRECTORY = 256, BLOCK_SECTORS = 8, POOL_GATE = 8, POOL_FRONT = 16, ENTRY = 256, PAGE_ENTRIES = 16 };
+enum { BLOCK_SLOTS = 504, MOST_BLOCKS = 2048, MOST_DIRECTORY = 256, BLOCK_SECTORS = 8, POOL_GATE = 8, POOL_FRONT = 16, ENTRY = 256 };
 
 /* Of a block of a map: its sectors, and those of the slots that it names in one body. */
 static const uint32_t STRIDE = BLOCK_SECTORS * (1 + BLOCK_SLOTS);
@@ -80,6 +80,12 @@ static int decode(const unsigned char *entry, struct file *to, const char **why)
 
 unsigned entries_of(const struct layout *layout) { return layout->blocks == 0 ? KEFS_FILES : PAGE_ENTRIES * layout->directory_pages; }
 
+/* What stands for a home page, from its first sector on. */
+static void copy_standing(struct kefs_image *image, size_t sector, unsigned char *to) {
+  if (may_lack_room(image, sector) && read_all(image->fd, to, PAGE, (off_t)(SECTOR * sector)) == KEFS_OK) return;
+  memcpy(to, sector_at(image, sector), PAGE);
+}
+
 /* The directory of layout 4 is pages like any others: what stands for them counts. */
 int read_entry(struct kefs_image *image, unsigned f, struct file *to, const char **why) {
   unsigned char page[PAGE];
@@ -88,14 +94,36 @@ int read_entry(struct kefs_image *image, unsigned f, struct file *to, const char
   return decode(page + ENTRY * (f % PAGE_ENTRIES), to, why);
 }
 
-void read_directory(struct kefs_image *image) {
+/* Of layout 2 all entries lie in one sector. */
+static void read_older_entries(struct kefs_image *image) {
+  const unsigned char *entries = sector_at(image, image->layout.directory);
   const char *why;
+  for (unsigned f = 0; f < KEFS_FILES; f++) decode_older(entries + 8 * f, &image->files[f], &why);
+}
+
+/* The entries of a page of the directory, of which the first is that of file `f`. */
+static void read_page_entries(struct kefs_image *image, unsigned f, size_t sector) {
+  unsigned char page[PAGE];
+  const char *why;
+  copy_standing(image, sector, page);
+  for (unsigned i = 0; i < PAGE_ENTRIES; i++) decode(page + ENTRY * i, &image->files[f + i], &why);
+}
+
+/* A file that the directory has no entry for is not there. */
+static void read_pool_entries(struct kefs_image *image) {
+  enum { MOST = KEFS_FILES / PAGE_ENTRIES };
+  size_t sectors[MOST];
+  uint32_t pages = image->layout.directory_pages < MOST ? image->layout.directory_pages : MOST;
+  first_sectors(image, pages, sectors);
+  for (uint32_t i = 0; i < pages; i++) read_page_entries(image, PAGE_ENTRIES * i, sectors[i]);
+  memset(image->files + PAGE_ENTRIES * pages, 0, (KEFS_FILES - PAGE_ENTRIES * pages) * sizeof *image->files);
+}
+
+void read_directory(struct kefs_image *image) {
+  if (image->layout.blocks == 0) read_older_entries(image);
+  else read_pool_entries(image);
   image->stat.files = 0;
-  for (unsigned f = 0; f < KEFS_FILES; f++) {
-    image->files[f] = (struct file){0};
-    if (f < entries_of(&image->layout)) read_entry(image, f, &image->files[f], &why);
-    image->stat.files += (uint32_t)image->files[f].present;
-  }
+  for (unsigned f = 0; f < KEFS_FILES; f++) image->stat.files += (uint32_t)image->files[f].present;
 }
 
 size_t homes_from(const struct file *file, size_t k, uint32_t *home) {
@@ -142,18 +170,11 @@ uint32_t journal_home(const struct kefs_image *image, uint32_t i) { return numbe
 
 /* Pages */
 
-void copy_durable_page(struct kefs_image *image, uint32_t home, unsigned char *to) {
-  size_t sector = standing_sector(image, home);
-  if (may_lack_room(image, sector) && read_all(image->fd, to, PAGE, (off_t)(SECTOR * sector)) == KEFS_OK) return;
-  memcpy(to, sector_at(image, sector), PAGE);
-}
+void copy_durable_page(struct kefs_image *image, uint32_t home, unsigned char *to) { copy_standing(image, standing_sector(image, home), to); }
 
-void put_end(const struct mapping *mapping, size_t k, unsigned char *page) {
-  size_t left = mapping->file.length - k * PAGE, inside = left < PAGE ? left : PAGE;
-  memset(page + inside, 0, PAGE - inside);
-}
-
-void copy_durable(const struct mapping *mapping, size_t k, unsigned char *to) {
-  copy_durable_page(mapping->image, home_of_page(&mapping->file, k), to);
-  put_end(mapping, k, to);
+void copy_durable(struct kefs_image *image, unsigned f, size_t k, unsigned char *to) {
+  const struct file *file = &image->files[f];
+  size_t left = file->length - k * PAGE, inside = left < PAGE ? left : PAGE;
+  copy_durable_page(image, home_of_page(file, k), to);
+  memset(to + inside, 0, PAGE - inside);
 }

@@ -21,11 +21,12 @@ enum { OLD_OPTIONS = offsetof(struct kefs_options, pool) };
 static int check_opening(kefs_image **to, const char *path, unsigned flags, const struct kefs_options *options) {
   if (to != NULL) *to = NULL;
   if (to == NULL || path == NULL) return fail(NULL, KEFS_BAD_ARGUMENT, to == NULL ? "no place for the handle" : "no path");
-  unsigned trackers = flags & (KEFS_TRACK_SCAN | KEFS_TRACK_SIGNAL | KEFS_TRACK_CALLER), all = 2 * KEFS_SNAPSHOT - 1;
+  unsigned trackers = flags & (KEFS_TRACK_SCAN | KEFS_TRACK_SIGNAL | KEFS_TRACK_CALLER), all = 2 * KEFS_NAMES - 1;
   if ((flags & ~all) != 0 || (trackers & (trackers - 1)) != 0) return fail(NULL, EINVAL, "flags %#x", flags);
   if (options != NULL && options->size < OLD_OPTIONS) return fail(NULL, EINVAL, "size %zu of the options", options->size);
-  if ((flags & KEFS_CREATE) == 0) return KEFS_OK;
+  if ((flags & KEFS_CREATE) == 0) return (flags & KEFS_NAMES) == 0 ? KEFS_OK : fail(NULL, EINVAL, "KEFS_NAMES without KEFS_CREATE");
   if (options == NULL || (flags & (KEFS_RDONLY | KEFS_SNAPSHOT)) != 0) return fail(NULL, EINVAL, "KEFS_CREATE without options, or to read");
+  if ((flags & KEFS_NAMES) != 0 && options->count > 0) return fail(NULL, EINVAL, "%zu files of an image with names", options->count);
   return options->files == NULL && options->count > 0 ? fail(NULL, KEFS_BAD_ARGUMENT, "no files") : KEFS_OK;
 }
 
@@ -94,7 +95,8 @@ static int open_or_make(struct kefs_image *image, const struct opening *opening)
     int result = open_host_file(image, opening->path);
     if (result == KEFS_NOT_IMAGE) return fail(image, result, "%s: it is no regular file", opening->path);
     if (result != ENOENT || (opening->flags & KEFS_CREATE) == 0) return result == KEFS_OK ? KEFS_OK : fail(image, result, "opening %s", opening->path);
-    result = format_with_pool(opening->path, options->permissions, options->files, options->count, options->pool);
+    if ((opening->flags & KEFS_NAMES) != 0) result = format_with_names(opening->path, options->permissions, options->pool);
+    else result = format_with_pool(opening->path, options->permissions, options->files, options->count, options->pool);
     if (result == EEXIST && access(opening->path, F_OK) != 0) return fail(image, errno, "opening %s", opening->path); /* a link to nothing */
     if (result != KEFS_OK && result != EEXIST) return fail(image, result, "%s", kefs_errmsg(NULL));
   }
@@ -119,12 +121,15 @@ static int lock_path(struct kefs_image *image, const struct opening *opening) {
   return fail(image, ESTALE, "%s leads to another file each time", opening->path);
 }
 
+static void let_pages_go(const unsigned char *bytes, size_t sectors) { madvise((void *)(uintptr_t)bytes, SECTOR * sectors, MADV_DONTNEED); }
+
 /* After a sync that failed the system may hold bytes that it takes for written and the device has not: a later sync succeeds and
    does not write them. So what it holds is dropped, once nothing of it waits to be written, and read anew. A page stays where it
    is mapped, or being read, so the pages of the image's own mapping are let go first, and readers' turns are waited for. */
 int settle(struct kefs_image *image) {
   await_readers(image);
-  if (image->bytes != NULL) madvise((void *)(uintptr_t)image->bytes, SECTOR * image->sectors, MADV_DONTNEED);
+  if (image->bytes != NULL) let_pages_go(image->bytes, image->sectors);
+  for (const struct former *it = image->former; it != NULL; it = it->next) let_pages_go(it->bytes, it->sectors);
   if (fsync(image->fd) != 0) return fail(image, device_result(errno), "fsync: %s", strerror(errno));
   posix_fadvise(image->fd, 0, 0, POSIX_FADV_DONTNEED);
   forget_places(image);
@@ -137,7 +142,7 @@ static int open_to_map(const struct kefs_image *image) {
   char place[40];
   snprintf(place, sizeof place, "/proc/self/fd/%d", image->fd);
   int fd = open_high(place, O_RDONLY | O_CLOEXEC, 0);
-  if (fd < 0) fd = open_high(image->path, O_RDONLY | O_CLOEXEC | O_NONBLOCK | O_NOCTTY, 0);
+  if (fd < 0 && image->path != NULL) fd = open_high(image->path, O_RDONLY | O_CLOEXEC | O_NONBLOCK | O_NOCTTY, 0);
   struct stat here, there;
   if (fd < 0 || (fstat(image->fd, &here) == 0 && fstat(fd, &there) == 0 && is_same_file(&here, &there))) return fd;
   close(fd);
@@ -145,16 +150,19 @@ static int open_to_map(const struct kefs_image *image) {
 }
 
 /* The one byte more is for a file of no bytes, which cannot be mapped. */
+const unsigned char *map_sectors(const struct kefs_image *image, size_t sectors) {
+  int fd = open_to_map(image);
+  void *bytes = mmap(NULL, mapped_bytes(sectors), PROT_READ, MAP_SHARED, fd < 0 ? image->fd : fd, 0);
+  if (fd >= 0) close(fd);
+  return bytes == MAP_FAILED ? NULL : bytes;
+}
+
 static int map_host_file(struct kefs_image *image) {
   struct stat there;
   if (fstat(image->fd, &there) != 0) return fail(image, errno, "fstat");
   image->sectors = (size_t)there.st_size / SECTOR;
-  int fd = open_to_map(image);
-  void *bytes = mmap(NULL, mapped_bytes(image), PROT_READ, MAP_SHARED, fd < 0 ? image->fd : fd, 0);
-  if (fd >= 0) close(fd);
-  if (bytes == MAP_FAILED) return fail(image, ENOMEM, "mapping the host file");
-  image->bytes = bytes;
-  return KEFS_OK;
+  image->bytes = map_sectors(image, image->sectors);
+  return image->bytes == NULL ? fail(image, ENOMEM, "mapping the host file") : KEFS_OK;
 }
 
 /* Sparse host files. One that takes less room on the device than its length may have pages without any. On a memory file system such a page takes room when it
@@ -238,9 +246,9 @@ static int take_slots(struct kefs_image *image) {
 
 static int secure_head(struct kefs_image *image) {
   if (!is_sparse(image)) return image->layout = layout_of(image), KEFS_OK;
-  image->roomless = new_memory(room_bytes(image));
+  image->roomless = new_memory(room_bytes(image->sectors));
   if (image->roomless == NULL) return fail(image, ENOMEM, "which pages have no room");
-  memset(image->roomless, 0xff, room_bytes(image));
+  memset(image->roomless, 0xff, room_bytes(image->sectors));
   return read_kind(image);
 }
 
@@ -252,7 +260,7 @@ static int read_head(struct kefs_image *image) {
 
 /* Room for plans, for what their commits take, and memory to make them in. The worst plan writes each page sector by sector. */
 
-enum { HEAP_OF_BLOCK = 64 << 10, HEAP = 1 << 20, HEAP_OF_DIRECTORY_PAGE = 16 << 10 };
+enum { HEAP_OF_BLOCK = 68 << 10, HEAP = (1 << 20) + (32 << 10), HEAP_OF_DIRECTORY_PAGE = 24 << 10, ROWS_OF_PAGE = PAGE / SECTOR };
 
 static int new_plan(struct plan *plan, size_t room) {
   *plan = (struct plan){.room = room, .calls = new_memory(room * sizeof *plan->calls), .rows = new_memory(room * sizeof *plan->rows)};
@@ -263,6 +271,33 @@ static void drop_plan(struct plan *plan) {
   drop_memory(plan->calls, plan->room * sizeof *plan->calls);
   drop_memory(plan->rows, plan->room * sizeof *plan->rows);
   *plan = (struct plan){0};
+}
+
+/* As new_memory, it takes room only where it is touched, after mlockall(MCL_FUTURE) too: most rows of new pages never are. */
+static void *resized_memory(void *at, size_t length, size_t wanted) {
+  munlock(at, length);
+  void *moved = mremap(at, length, wanted, MREMAP_MAYMOVE);
+  return moved == MAP_FAILED ? NULL : moved;
+}
+
+/* What the plan holds so far stays in it. */
+static int set_plan_room(struct plan *plan, size_t room) {
+  if (plan->room == room) return KEFS_OK;
+  void *calls = resized_memory(plan->calls, plan->room * sizeof *plan->calls, room * sizeof *plan->calls);
+  if (calls == NULL) return ENOMEM;
+  plan->calls = calls;
+  void *rows = resized_memory(plan->rows, plan->room * sizeof *plan->rows, room * sizeof *plan->rows);
+  if (rows != NULL) return plan->rows = rows, plan->room = room, KEFS_OK;
+  resized_memory(plan->calls, room * sizeof *plan->calls, plan->room * sizeof *plan->calls);
+  return ENOMEM;
+}
+
+static size_t room_of(const struct layout *layout) { return layout->blocks == 0 ? (size_t)FAMSYNC_ROOM : (size_t)FAMSYNC_ROOM_OF_BLOCK * layout->blocks; }
+
+int set_plan_rooms(struct kefs_image *image, size_t added) {
+  size_t room = room_of(&image->layout) + ROWS_OF_PAGE * added;
+  int number = set_plan_room(&image->scratch, room);
+  return number == KEFS_OK ? set_plan_room(&image->plan, room) : number;
 }
 
 static int new_heap(struct heap *heap, const struct layout *layout) {
@@ -284,7 +319,7 @@ void drop_taken(struct taken *taken, size_t room) {
 
 int make_rooms(struct kefs_image *image) {
   const struct layout *layout = &image->layout;
-  size_t room = layout->blocks == 0 ? (size_t)FAMSYNC_ROOM : (size_t)FAMSYNC_ROOM_OF_BLOCK * layout->blocks;
+  size_t room = room_of(layout);
   drop_rooms(image);
   int has_plans = new_plan(&image->scratch, room) && new_plan(&image->plan, room) && new_heap(&image->heap, layout);
   int has_places = new_places(layout, &image->places) == KEFS_OK;
@@ -355,7 +390,7 @@ static struct kefs_image *new_image(void) {
   struct kefs_image *image = calloc(1, sizeof *image);
   if (image == NULL) return NULL;
   image->serial = new_serial();
-  image->fd = image->faults = image->pagemap = -1;
+  image->fd = image->faults = image->pagemap = image->nothing = -1;
   image->planned = &image->taken;
   begin_starts(image);
   pthread_mutex_init(&image->lock, NULL);
@@ -377,12 +412,13 @@ static int lock_and_read(struct kefs_image *image, const struct opening *opening
 /* A program whose struct has grown would read past the file that an earlier one made. */
 static int check_created(const struct kefs_image *image, const struct opening *opening) {
   const struct kefs_options *options = &opening->options;
+  if ((opening->flags & KEFS_NAMES) != 0) return image->named != NULL ? KEFS_OK : fail(image, KEFS_OTHER_FILES, "the files of %s have no names", opening->path);
   for (unsigned f = 0; f < KEFS_FILES && (opening->flags & KEFS_CREATE) != 0; f++) {
     const struct file *file = &image->files[f];
     const struct kefs_file *wanted = f < options->count ? &options->files[f] : NULL;
     if (file->present != (wanted != NULL)) return fail(image, KEFS_OTHER_FILES, "%s has %s file %u", opening->path, file->present ? "a" : "no", f);
     if (wanted == NULL) continue;
-    if (file->length != wanted->length)
+    if (file->length != wanted->length && (wanted->flags & KEFS_FILE_GROWS) == 0)
       return fail(image, KEFS_OTHER_FILES, "file %u of %s has %u bytes, and not %u", f, opening->path, (unsigned)file->length, (unsigned)wanted->length);
     if (file->read_only != ((wanted->flags & KEFS_FILE_READ_ONLY) != 0))
       return fail(image, KEFS_OTHER_FILES, "file %u of %s is %sread-only", f, opening->path, file->read_only ? "" : "not ");
@@ -409,7 +445,8 @@ static int open_image(struct kefs_image *image, const struct opening *opening) {
   if (result == KEFS_OK) result = lock_and_read(image, opening);
   if (result != KEFS_OK) return result;
   end_change(image);
-  result = check_created(image, opening);
+  result = image->read_only ? KEFS_OK : begin_names(image);
+  if (result == KEFS_OK) result = check_created(image, opening);
   if (result != KEFS_OK) return result;
   result = begin_tracking(image, is_snapshot ? 0 : opening->flags);
   return result == KEFS_OK ? KEFS_OK : fail(image, result, "tracking");
@@ -456,7 +493,7 @@ int open_older(kefs_image **to, const char *path) {
 /* A plan ends in the gate's write and a sync, in either layout. Before these the commit cannot stand; after one of them failed, the gate tells. */
 static enum outcome outcome_of(const struct kefs_image *image) {
   const struct plan *plan = &image->plan;
-  if (image->planned->count == 0 || image->failed + 2 < plan->used) return IS_BEFORE;
+  if (image->planned == &image->none || image->failed + 2 < plan->used) return IS_BEFORE;
   return gate_says(image, plan->rows[plan->used - 2]) ? IS_AFTER : IS_BEFORE;
 }
 

@@ -1,6 +1,7 @@
 /* Where pages stand that are not in their homes: in the journal that the gate names, or in the slots of a pool. */
 #include "internal.h"
 #include <errno.h>
+#include <string.h>
 
 enum { BLOCK_NUMBERS = 504, HEAD = 64, BODY_NUMBERS = 4 * BLOCK_NUMBERS }; /* of a block of a pool's map: numbers of a body; bytes before them, and of them */
 
@@ -25,24 +26,44 @@ static void list_journal(const unsigned char *map, uint32_t first, struct places
   places->count = count;
 }
 
-/* The numbers of a block of one body, whose slots begin at a sector. What names a home past the last one is not looked at. */
-static void list_numbers(uint64_t homes, const unsigned char *numbers, uint32_t sector, struct places *places) {
+/* What is looked for in a pool's map: a list of all places, or where the first homes stand, so many of them. */
+struct look { uint64_t homes; struct places *places; size_t *sectors; };
+
+/* Looks at the numbers of a block of one body, whose slots begin at a sector. */
+typedef void look_at(const struct look *look, const unsigned char *numbers, uint32_t sector);
+
+/* What names a home past the last one is not looked at. */
+static void list_numbers(const struct look *look, const unsigned char *numbers, uint32_t sector) {
+  struct places *places = look->places;
   for (uint32_t i = 0; i < BLOCK_NUMBERS; i++) {
     uint32_t number = number_at(numbers + 4 * i);
-    if (number != 0 && number <= homes) places->list[places->count++] = (struct place){number - 1, sector + PAGE / SECTOR * i};
+    if (number != 0 && number <= look->homes) places->list[places->count++] = (struct place){number - 1, sector + PAGE / SECTOR * i};
+  }
+}
+
+/* The first slot that names a home counts, and 0 names none. */
+static void find_numbers(const struct look *look, const unsigned char *numbers, uint32_t sector) {
+  uint32_t homes = (uint32_t)look->homes;
+  for (uint32_t i = 0; i < BLOCK_NUMBERS; i++) {
+    uint32_t home = number_at(numbers + 4 * i) - 1;
+    if (home < homes && look->sectors[home] == 0) look->sectors[home] = sector + PAGE / SECTOR * i;
   }
 }
 
 /* In the order of slots. The blocks of a map lie with the last one first. */
-static void list_pool(const struct layout *layout, uint64_t homes, const unsigned char *map, struct places *places) {
+static void look_through(const struct layout *layout, const unsigned char *map, look_at *at, const struct look *look) {
   uint32_t blocks = layout->blocks, count = number_at(map + (size_t)PAGE * (blocks - 1));
   if (count > blocks) count = blocks;
-  places->count = 0;
   for (unsigned body = 0; body < 2; body++)
     for (uint32_t q = 0; q < count; q++) {
       uint32_t slots = layout->maps[body] + PAGE / SECTOR * (blocks + BLOCK_NUMBERS * q);
-      list_numbers(homes, map + (size_t)PAGE * (blocks - 1 - q) + HEAD + BODY_NUMBERS * body, slots, places);
+      at(look, map + (size_t)PAGE * (blocks - 1 - q) + HEAD + BODY_NUMBERS * body, slots);
     }
+}
+
+static void list_pool(const struct layout *layout, uint64_t homes, const unsigned char *map, struct places *places) {
+  places->count = 0;
+  look_through(layout, map, list_numbers, &(struct look){.homes = homes, .places = places});
 }
 
 void list_places(const struct layout *layout, uint64_t homes, const unsigned char *map, uint32_t first, struct places *places) {
@@ -124,4 +145,13 @@ size_t standing_sector(struct kefs_image *image, uint32_t home) {
   const struct places *places = image_places(image);
   size_t i = first_place(places, home);
   return i < places->count && places->list[i].home == home ? places->list[i].sector : home_sector(&image->layout, home);
+}
+
+/* Each commit of lengths is followed by it, when the places are to be read anew: for a few homes a list of all, in their order, would take longer than the plan. */
+void first_sectors(const struct kefs_image *image, uint32_t count, size_t *sectors) {
+  const struct layout *layout = &image->layout;
+  memset(sectors, 0, count * sizeof *sectors);
+  look_through(layout, sector_at(image, named_map(image)), find_numbers, &(struct look){.homes = count, .sectors = sectors});
+  for (uint32_t home = 0; home < count; home++)
+    if (sectors[home] == 0) sectors[home] = home_sector(layout, home);
 }

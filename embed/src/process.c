@@ -82,8 +82,8 @@ int is_own(int fd) {
   return found;
 }
 
-/* Regions are looked up by signal handlers, with no lock. So one that was made is never freed, but used again; its start is 0
-   while it is not in use, and is written last. */
+/* Regions, of all addresses that are kept for mappings, are looked up by signal handlers, with no lock. So one that was made is never freed, but used again;
+   its start is 0 while it is not in use, and is written last. */
 struct region { uintptr_t start, end; uint64_t generation; struct mapping *mapping; struct region *next; };
 static struct region *regions;
 
@@ -99,7 +99,7 @@ static struct region *free_region(void) {
 
 static void use_region(struct region *region, struct mapping *mapping) {
   uintptr_t start = (uintptr_t)mapping->at;
-  __atomic_store_n(&region->end, start + mapping->pages * PAGE, __ATOMIC_SEQ_CST);
+  __atomic_store_n(&region->end, start + mapping->kept * PAGE, __ATOMIC_SEQ_CST);
   __atomic_store_n(&region->generation, mapping->image->generation, __ATOMIC_SEQ_CST);
   __atomic_store_n(&region->mapping, mapping, __ATOMIC_SEQ_CST);
   __atomic_store_n(&region->start, start, __ATOMIC_SEQ_CST);

@@ -22,7 +22,7 @@
    - NEXT, shared, by readers that wait for a turn: the writer begins no commit before they have it.
    - INTENT, by a writer that is about to commit or to open: no reader begins a turn then.
    - TURN, shared, by readers in their turn, which takes some megabytes: the writer waits for its end.
-   - LISTS, by the writer: which homes each of its last commits changed.
+   - LISTS, by the writer: which homes each of its last commits changed, and which of these it gave to new pages of files that got longer.
    - INTEREST, shared, by readers from their first turn on: where none has it, LISTS names no home.
    That a snapshot is whole rests on the first two alone; the next three make waits short. A reader waits for the commit that is under way, and
    the writer for the turns that are. It waits for them a second at most, as for a reader that was stopped, and then goes on, and from then on in a tenth of the
@@ -30,13 +30,15 @@
 
    What a lock says only a writer can have said: a read lock, which is all that a program without the right to write can have, is none of STATES or LISTS.
 
-   What is read. Nothing where the byte of STATES is that of the snapshot, or where the file has the same time of change and it was long past when
-   the snapshot was made; the journal that the gate names alone where it is the next byte, since its map names all that one commit has changed, and
-   each other page is in the copy's home already, in whichever journal the file had it; that and the homes that LISTS names where it is one of the next REACH
-   bytes; else all used pages. Of a pool, in place of a journal, it is the homes that its map gives another slot than before, as each has that the last commit took.
-   Where commits came between, a home may have the slot again that it had: then LISTS names it, or, where pages were copied home meanwhile, says that it does not
-   name all. Between two turns of one reader there is mostly one commit, and its journal is read in the second one: so at the end of each turn the view is as
-   after the newest commit, as far as it goes. */
+   What is read. Nothing where the byte of STATES is that of the snapshot, or where the file has the same time of change and it was long past when the
+   snapshot was made; the journal that the gate names alone where it is the next byte, since its map names all that one commit has changed, and each other
+   page is in the copy's home already, in whichever journal the file had it; that and the homes that LISTS names where it is one of the next REACH bytes; else
+   all used pages. Of a pool, in place of a journal, it is the homes that its map gives another slot than before, as each has that the last commit took, and
+   those of new pages, which LISTS names of the last commit too: they may get none, or keep one that they had. Where commits came between, a home may have the
+   slot again that it had: then LISTS names it, or, where pages were copied home meanwhile, says that it does not name all. Between two turns of one reader
+   there is mostly one commit, and its journal is read in the second one: so at the end of each turn the view is as after the newest commit, as far as it
+   goes. The directory of a pool is read in each turn, and the files of a turn are those that it says: what a file had read of it before stays read, since a
+   page keeps its home for as long as the file has it, and LISTS names those that came. */
 #define _GNU_SOURCE
 #include "reading.h"
 #include <errno.h>
@@ -120,9 +122,11 @@ int begin_change(struct kefs_image *image) {
   return KEFS_OK;
 }
 
-/* Where LISTS has the homes that a commit changed, which an earlier commit had before. Its last byte says that they are not all there. */
+/* Where LISTS has the homes that a commit changed, which an earlier commit had before: first those of pages that were pages before, and then those of new
+   ones. Its last byte says that the first are not all there. Home 0, of the directory, is no new page's. */
 enum { LIST_BITS = 31 };
 off_t list_of(off_t state) { return LISTS + ((state & (REACH - 1)) << LIST_BITS); }
+off_t new_list_of(off_t state) { return list_of(state) + MOST_HOMES - 1; }
 static off_t end_of_list(off_t state) { return list_of(state) + ((off_t)1 << LIST_BITS) - 1; }
 
 static uint32_t home_taken(const struct kefs_image *image, size_t i) {
@@ -130,9 +134,11 @@ static uint32_t home_taken(const struct kefs_image *image, size_t i) {
   return home_of_page(&image->files[page->file], page->page);
 }
 
+/* A new page may be copied too: where it has by chance the bytes of what was read last, mostly zeros of the directory in its home. */
 int has_dropped(const struct kefs_image *image) {
-  for (size_t i = 0; i < image->plan.used && image->layout.blocks > 0; i++)
-    if (image->plan.calls[i].kind == FAMSYNC_COPY) return 1;
+  const struct layout *layout = &image->layout;
+  for (const struct famsync_call *it = image->plan.calls; it < image->plan.calls + image->plan.used && layout->blocks > 0; it++)
+    if (it->kind == FAMSYNC_COPY && it->from < layout->homes && layout->homes <= it->sector) return 1;
   return 0;
 }
 
@@ -149,15 +155,27 @@ static int are_few(const struct kefs_image *image) {
   return i == image->planned->count;
 }
 
+/* Tells which homes have new pages: all of them, or an errno value. */
+static int tell_new_homes(struct kefs_image *image, off_t state) {
+  struct new_homes it = {.image = image};
+  struct extent homes;
+  int number = KEFS_OK;
+  if (image->planned != &image->resizing.lent || is_free(image->fd, INTEREST)) return KEFS_OK;
+  for (int runs = 0; number == KEFS_OK && next_new_homes(&it, &homes); runs++)
+    number = runs == MOST_RUNS ? E2BIG : set_locks(image->fd, F_WRLCK, new_list_of(state) + homes.first, (off_t)homes.count);
+  return number;
+}
+
 /* Tells which homes are other ones since the state before this one. Where they are too many runs readers look at all pages, and none is named, nor where there is no
    reader: each lock takes time by the number of those that are there. */
-static int tell_homes(const struct kefs_image *image, off_t state) {
+static int tell_homes(struct kefs_image *image, off_t state) {
   int fd = image->fd, number = set_locks(fd, F_UNLCK, list_of(state), (off_t)1 << LIST_BITS), names_all = are_few(image) && !has_dropped(image) && !is_free(fd, INTEREST);
   for (size_t i = 0, homes; names_all && i < image->planned->count && number == KEFS_OK; i += homes) {
     homes = run_of(image, i);
     number = set_locks(fd, F_WRLCK, list_of(state) + home_taken(image, i), (off_t)homes);
   }
-  return names_all || number != KEFS_OK ? number : set_lock(fd, F_WRLCK, end_of_list(state));
+  if (!names_all && number == KEFS_OK) number = set_lock(fd, F_WRLCK, end_of_list(state));
+  return number == KEFS_OK ? tell_new_homes(image, state) : number;
 }
 
 /* The list is there before the state is, and INTENT goes last: a reader whose turn begins finds both. Where the list can't be had, the state is no next one of
@@ -330,8 +348,8 @@ int end_turn(struct reading *reading, int is_over) {
 /* What commits have told */
 
 /* How far a list of LISTS goes: the homes of one run from `at` on, or none, where `count` is 0. */
-off_t next_run(const struct reading *reading, off_t state, off_t at, off_t *count) {
-  off_t found = *count = 0, end = end_of_list(state);
+off_t next_run(const struct reading *reading, off_t list, off_t at, off_t *count) {
+  off_t found = *count = 0, end = list + MOST_HOMES;
   if (at < end) found = locked_bytes(reading->image->fd, F_RDLCK, at, end - at, count);
   if (found == 0) return *count = 0, at;
   if (found < at) *count -= at - found, found = at;
@@ -339,13 +357,20 @@ off_t next_run(const struct reading *reading, off_t state, off_t at, off_t *coun
   return found;
 }
 
-/* How many homes the commits after `before` and before this turn's state changed, or -1 where that is not told of each. */
+static off_t count_list(const struct reading *reading, off_t list) {
+  off_t sum = 0, count;
+  for (off_t at = next_run(reading, list, list, &count); count > 0; at = next_run(reading, list, at + count, &count)) sum += count;
+  return sum;
+}
+
+/* How many homes the commits after `before` and before this turn's state changed, and new pages this turn's has, or -1 where that is not told of each. */
 off_t count_told(const struct reading *reading) {
-  off_t sum = 0, count, same_epoch = reading->before >> COUNT_BITS == reading->state >> COUNT_BITS;
+  off_t sum = 0, same_epoch = reading->before >> COUNT_BITS == reading->state >> COUNT_BITS;
   if (!same_epoch || reading->state < reading->before || reading->state - reading->before > REACH) return -1;
-  for (off_t state = reading->before + 1; state < reading->state; state++) {
-    if (locked_byte(reading->image->fd, F_RDLCK, end_of_list(state), 1) != 0) return -1;
-    for (off_t at = next_run(reading, state, list_of(state), &count); count > 0; at = next_run(reading, state, at + count, &count)) sum += count;
+  for (off_t state = reading->before + 1; state <= reading->state; state++) {
+    int is_last = state == reading->state;
+    if (!is_last && locked_byte(reading->image->fd, F_RDLCK, end_of_list(state), 1) != 0) return -1;
+    sum += count_list(reading, new_list_of(state)) + (is_last ? 0 : count_list(reading, list_of(state)));
   }
   return sum;
 }

@@ -25,7 +25,8 @@ struct snapshot {
 /* What a reading goes by. `state` is that of its turn, 0 in one without a writer. */
 struct reading {
   struct kefs_image *image;
-  unsigned char *view;    /* of the memory that is read into */
+  unsigned char *view;    /* of the memory that is read into, */
+  size_t length;          /* so many bytes */
   unsigned char *altered; /* a bit for each page of it that was changed; NULL at the opening, when the view is the copy itself */
   unsigned char *part;    /* room for what is compared with the view */
   struct wait wait;
@@ -40,7 +41,8 @@ struct reading {
   struct timespec began;
   struct places now, was; /* of a pool: where pages stand in this turn, and stood in the one before */
   unsigned char *map;     /* and room for a map of it */
-  int has_files;          /* the view has its directory */
+  int has_files;          /* the image's files are those of the view's directory, */
+  int is_looked_at;       /* and the proved part has looked at it */
 };
 
 /* readers.c */
@@ -55,10 +57,12 @@ int end_turn(struct reading *reading, int is_over);
 int is_same_time(const struct timespec *one, const struct timespec *other);
 /* The state of the file now, or 0. */
 off_t state_now(const struct kefs_image *image);
-/* Where LISTS begins to tell of a state's commit; and how far a list goes: the homes of one run from `at` on, or none, where `count` is 0. */
+/* Where LISTS begins to tell of a state's commit: the homes of pages that were pages before, and those of new ones. And how far such a list goes: the homes
+   of one run from `at` on, or none, where `count` is 0. */
 off_t list_of(off_t state);
-off_t next_run(const struct reading *reading, off_t state, off_t at, off_t *count);
-/* How many homes the commits after `before` and before this turn's state changed, or -1 where that is not told of each. */
+off_t new_list_of(off_t state);
+off_t next_run(const struct reading *reading, off_t list, off_t at, off_t *count);
+/* How many homes the commits after `before` and before this turn's state changed, and new pages this turn's has, or -1 where that is not told of each. */
 off_t count_told(const struct reading *reading);
 
 /* views.c */

@@ -32,18 +32,14 @@ void end_snapshot(struct kefs_image *image) {
   image->snapshot = NULL;
 }
 
-/* Kernels before 6.3 have not the flag that says that nobody runs it as a program. */
-static int new_memory_file(void) {
-  enum { NO_PROGRAM = 8 };
-  int fd = memfd_create("kefs", MFD_CLOEXEC | NO_PROGRAM);
-  return move_high(fd < 0 && errno == EINVAL ? memfd_create("kefs", MFD_CLOEXEC) : fd);
-}
+/* Of an image of so many sectors. */
+static size_t length_of_copy(const struct snapshot *snapshot, size_t sectors) { return (snapshot->before + SECTOR * sectors + PAGE - 1) / PAGE * PAGE; }
 
 /* Memory for the copy: of zeros, as holes of the file are. */
 static int new_copy(struct kefs_image *image) {
   struct snapshot *snapshot = image->snapshot;
   snapshot->before = (PAGE - (size_t)home_offset(&image->layout, 0) % PAGE) % PAGE;
-  snapshot->length = (snapshot->before + SECTOR * image->sectors + PAGE - 1) / PAGE * PAGE;
+  snapshot->length = length_of_copy(snapshot, image->sectors);
   snapshot->memory = new_memory_file();
   int number = snapshot->memory < 0 ? errno : set_length(snapshot->memory, (off_t)snapshot->length);
   if (number != KEFS_OK) return fail(image, number, "memory for a snapshot of %zu bytes", snapshot->length);
@@ -59,29 +55,109 @@ int file_of_bytes(const struct kefs_image *image, off_t *before) {
   return image->snapshot == NULL ? image->fd : image->snapshot->memory;
 }
 
-/* Maps the homes of a file's pages, where memory for all of them is kept. */
-static int map_homes(struct mapping *mapping) {
-  const struct snapshot *snapshot = mapping->image->snapshot;
-  for (size_t k = 0, run; k < mapping->pages; k += run) {
-    uint32_t home = 0;
-    run = homes_from(&mapping->file, k, &home);
-    if (run > mapping->pages - k) run = mapping->pages - k;
-    off_t offset = (off_t)snapshot->before + home_offset(&mapping->image->layout, home);
-    if (mmap(mapping->at + k * PAGE, run * PAGE, PROT_READ, MAP_SHARED | MAP_FIXED, snapshot->memory, offset) == MAP_FAILED) return errno;
+/* Mapped files */
+
+static const struct file NO_FILE;
+static const uint32_t NO_HOME = UINT32_MAX;
+
+/* So many pages of a file are shown by a mapping of it. */
+static size_t shown_pages(const struct mapping *mapping, const struct file *file) {
+  size_t pages = file->present ? (size_t)pages_of(file->length) : 0;
+  return pages < mapping->kept ? pages : mapping->kept;
+}
+
+/* From page `k` of a mapping on: how many have homes of a file one after the other, or have none. */
+static size_t run_of_homes(const struct mapping *mapping, const struct file *file, size_t k, uint32_t *home) {
+  size_t pages = shown_pages(mapping, file);
+  if (k >= pages) return *home = NO_HOME, mapping->kept - k;
+  size_t run = homes_from(file, k, home);
+  return run < pages - k ? run : pages - k;
+}
+
+static int map_homes(const struct span *span, uint32_t home) {
+  const struct kefs_image *image = span->mapping->image;
+  unsigned char *at = span->mapping->at + span->first * PAGE;
+  size_t bytes = (span->end - span->first) * PAGE;
+  off_t offset = (off_t)image->snapshot->before + home_offset(&image->layout, home);
+  if (mmap(at, bytes, PROT_READ, MAP_SHARED | MAP_FIXED, image->snapshot->memory, offset) == MAP_FAILED) return errno;
+  return madvise(at, bytes, MADV_DONTFORK) == 0 ? KEFS_OK : errno;
+}
+
+/* Has a mapping show the pages of one file where it showed those of another, as far as addresses are kept for them: those that have other homes, or have none
+   any more. */
+static int change_mapping(struct mapping *mapping, const struct file *from, const struct file *to) {
+  int number = KEFS_OK;
+  for (size_t k = 0, run; k < mapping->kept && number == KEFS_OK; k += run) {
+    uint32_t before, home;
+    size_t others = run_of_homes(mapping, from, k, &before);
+    run = run_of_homes(mapping, to, k, &home);
+    if (others < run) run = others;
+    struct span span = {mapping, k, k + run};
+    if (home != before) number = home == NO_HOME ? take_memory(&span) : map_homes(&span, home);
   }
+  return number;
+}
+
+int map_snapshot(struct mapping *mapping) { return change_mapping(mapping, &NO_FILE, &mapping->file); }
+
+static void note_file(struct mapping *mapping, const struct file *file) {
+  mapping->file = *file;
+  __atomic_store_n(&mapping->pages, shown_pages(mapping, file), __ATOMIC_SEQ_CST);
+}
+
+/* Brings all mapped files to the lengths that files have now, which had others before; or, where that fails, leaves them as they were. */
+static int change_mappings(struct kefs_image *image, const struct file *before) {
+  int number = KEFS_OK;
+  unsigned f = 0;
+  for (; f < KEFS_FILES && number == KEFS_OK; f++) number = change_mapping(&image->mappings[f], &before[f], &image->files[f]);
+  if (number != KEFS_OK) {
+    while (f-- > 0) change_mapping(&image->mappings[f], &image->files[f], &before[f]);
+    return fail(image, number, "other lengths of mapped files: %s", kefs_strerror(number));
+  }
+  for (f = 0; f < KEFS_FILES; f++)
+    if (image->mappings[f].at != NULL) note_file(&image->mappings[f], &image->files[f]);
   return KEFS_OK;
 }
 
-int map_snapshot(struct mapping *mapping, void *wanted) {
-  size_t bytes = mapping->pages * PAGE;
-  int place = wanted == NULL ? 0 : MAP_FIXED_NOREPLACE;
-  void *at = mmap(wanted, bytes, PROT_NONE, MAP_PRIVATE | MAP_ANONYMOUS | MAP_NORESERVE | place, -1, 0);
-  if (at == MAP_FAILED) return errno;
-  mapping->at = at;
-  if (wanted != NULL && at != wanted) return EEXIST; /* kernels before 4.17 */
-  int number = map_homes(mapping);
+/* Longer images */
+
+static size_t bits_of(size_t length) { return length / PAGE / 8 + 1; }
+
+/* What is longer of the copy stays so, also where a refresh fails: nobody sees it. */
+static int lengthen_copy(struct snapshot *snapshot, size_t length) {
+  if (length <= snapshot->length) return KEFS_OK;
+  int number = set_length(snapshot->memory, (off_t)length);
   if (number != KEFS_OK) return number;
-  return madvise(at, bytes, MADV_DONTFORK) == 0 ? KEFS_OK : errno;
+  void *at = mremap(snapshot->at, snapshot->length, length, MREMAP_MAYMOVE);
+  if (at == MAP_FAILED) return ENOMEM;
+  snapshot->at = at, snapshot->length = length;
+  return KEFS_OK;
+}
+
+static int lengthen_view(struct reading *reading, size_t length) {
+  struct snapshot *snapshot = reading->image->snapshot;
+  if (reading->altered == NULL) return reading->view = snapshot->at, reading->length = snapshot->length, KEFS_OK;
+  if (length <= reading->length) return KEFS_OK;
+  void *altered = mremap(reading->altered, bits_of(reading->length), bits_of(length), MREMAP_MAYMOVE);
+  if (altered == MAP_FAILED) return ENOMEM;
+  reading->altered = altered;
+  void *view = mremap(reading->view, reading->length, length, MREMAP_MAYMOVE);
+  if (view != MAP_FAILED) return reading->view = view, reading->length = length, KEFS_OK;
+  mremap(altered, bits_of(length), bits_of(reading->length), 0);
+  return ENOMEM;
+}
+
+/* The host file gets longer where files do. */
+static int follow_length(struct reading *reading, size_t sectors) {
+  struct kefs_image *image = reading->image;
+  struct snapshot *snapshot = image->snapshot;
+  size_t length = length_of_copy(snapshot, sectors);
+  int number = lengthen_copy(snapshot, length);
+  if (number == KEFS_OK) number = lengthen_view(reading, length);
+  if (number != KEFS_OK) return fail(image, number, "memory for a snapshot of %zu bytes", length);
+  image->bytes = reading->view + snapshot->before;
+  image->sectors = sectors;
+  return KEFS_OK;
 }
 
 /* Making */
@@ -90,7 +166,9 @@ static int check_file(struct reading *reading) {
   struct kefs_image *image = reading->image;
   if (fstat(image->fd, &reading->facts) != 0) return fail(image, errno, "fstat");
   if (reading->facts.st_nlink == 0) return fail(image, ESTALE, "the image was replaced or removed");
-  return (size_t)reading->facts.st_size / SECTOR >= image->sectors ? KEFS_OK : fail(image, KEFS_NOT_IMAGE, "the image was cut");
+  size_t sectors = (size_t)reading->facts.st_size / SECTOR;
+  if (sectors < image->sectors) return fail(image, KEFS_NOT_IMAGE, "the image was cut");
+  return sectors == image->sectors ? KEFS_OK : follow_length(reading, sectors);
 }
 
 /* Where no writer has told that the file is synced: as `settle`. */
@@ -141,16 +219,19 @@ static void put_zeros(struct reading *reading) {
 }
 
 static int read_view(struct reading *reading) {
-  struct kefs_image *image = reading->image;
   int result = read_used(reading);
-  if (result != KEFS_OK) return result;
-  put_zeros(reading);
-  image->snapshot->state = reading->state;
-  image->snapshot->time = reading->facts.st_ctim;
-  image->snapshot->is_calm = reading->began.tv_sec - reading->facts.st_ctim.tv_sec > CALM / 1000;
-  struct places places = image->snapshot->places;
-  image->snapshot->places = reading->now, reading->now = places;
-  return KEFS_OK;
+  if (result == KEFS_OK) put_zeros(reading);
+  return result;
+}
+
+/* What the snapshot is as of from here on. */
+static void note_reading(struct reading *reading) {
+  struct snapshot *snapshot = reading->image->snapshot;
+  snapshot->state = reading->state;
+  snapshot->time = reading->facts.st_ctim;
+  snapshot->is_calm = reading->began.tv_sec - reading->facts.st_ctim.tv_sec > CALM / 1000;
+  struct places places = snapshot->places;
+  snapshot->places = reading->now, reading->now = places;
 }
 
 /* Room for a pool's places, as they are and as they were in the snapshot, which is none where it is not made yet. */
@@ -187,9 +268,10 @@ int read_snapshot(struct kefs_image *image) {
   int result = check_kind(image);
   if (result == KEFS_OK) result = make_rooms(image);
   if (result == KEFS_OK) result = new_copy(image);
-  struct reading reading = {.image = image, .view = image->snapshot->at, .wait = wait_of(image->snapshot->limit)};
+  struct reading reading = {.image = image, .view = image->snapshot->at, .length = image->snapshot->length, .wait = wait_of(image->snapshot->limit)};
   if (result == KEFS_OK) result = begin_reading(&reading);
   if (result == KEFS_OK) result = read_view(&reading);
+  if (result == KEFS_OK) note_reading(&reading);
   end_reading(&reading);
   return result;
 }
@@ -200,7 +282,7 @@ int read_snapshot(struct kefs_image *image) {
 static int show(struct reading *reading) {
   struct kefs_image *image = reading->image;
   const struct snapshot *snapshot = image->snapshot;
-  size_t pages = snapshot->length / PAGE, homes = page_of(reading, (size_t)home_offset(&image->layout, 0));
+  size_t pages = reading->length / PAGE, homes = page_of(reading, (size_t)home_offset(&image->layout, 0));
   int changed = 0;
   for (size_t k = 0; k < pages; k++) {
     if (k % 8 == 0 && reading->altered[k / 8] == 0) k += 7;
@@ -221,15 +303,32 @@ static int is_same(const struct kefs_image *image) {
   return (snapshot->is_calm && is_same_time(&now.st_ctim, &snapshot->time)) || (snapshot->state != 0 && state_now(image) == snapshot->state);
 }
 
-/* For the time of the reading the image's bytes are those of the view. */
+/* What an image says of its files, which is as before where a refresh fails. */
+struct said { struct file files[KEFS_FILES]; size_t sectors; struct kefs_stat stat; };
+
+static void keep_said(const struct kefs_image *image, struct said *said) {
+  memcpy(said->files, image->files, sizeof said->files);
+  said->sectors = image->sectors, said->stat = image->stat;
+}
+
+static void say_again(struct kefs_image *image, const struct said *said) {
+  memcpy(image->files, said->files, sizeof said->files);
+  image->sectors = said->sectors, image->stat = said->stat;
+}
+
+/* For the time of the reading the image's bytes and files are those of the view. The mapped files show what they showed, in other places where pages have
+   come, until the pages that differ are brought over. */
 static int refresh_by(struct reading *reading, int *changed) {
   struct kefs_image *image = reading->image;
-  const struct snapshot *snapshot = image->snapshot;
-  image->bytes = reading->view + snapshot->before;
+  struct said before;
+  keep_said(image, &before);
+  image->bytes = reading->view + image->snapshot->before;
   int result = read_view(reading);
-  image->bytes = snapshot->at + snapshot->before;
+  if (result == KEFS_OK) result = change_mappings(image, before.files);
+  if (result == KEFS_OK) note_reading(reading), *changed = show(reading);
+  else say_again(image, &before);
+  image->bytes = image->snapshot->at + image->snapshot->before;
   forget_places(image);
-  if (result == KEFS_OK) *changed = show(reading);
   return result;
 }
 
@@ -237,16 +336,16 @@ static int refresh(struct kefs_image *image, int *changed) {
   struct snapshot *snapshot = image->snapshot;
   *changed = 0;
   if (is_same(image)) return KEFS_OK;
-  size_t bits = snapshot->length / PAGE / 8 + 1;
   void *view = mmap(NULL, snapshot->length, PROT_READ | PROT_WRITE, MAP_PRIVATE | MAP_NORESERVE, snapshot->memory, 0);
-  struct reading reading = {.image = image, .view = view == MAP_FAILED ? NULL : view, .altered = new_memory(bits), .part = new_memory(PART),
-                            .wait = wait_of(snapshot->limit), .file = KEFS_FILES, .before = snapshot->state, .has_files = 1};
+  struct reading reading = {.image = image, .view = view == MAP_FAILED ? NULL : view, .length = snapshot->length,
+                            .altered = new_memory(bits_of(snapshot->length)), .part = new_memory(PART), .wait = wait_of(snapshot->limit),
+                            .file = KEFS_FILES, .before = snapshot->state, .has_files = 1, .is_looked_at = 1};
   int has_memory = reading.view != NULL && reading.altered != NULL && reading.part != NULL;
   int result = has_memory ? begin_reading(&reading) : fail(image, ENOMEM, "memory for a refresh");
   if (result == KEFS_OK) result = refresh_by(&reading, changed);
   end_reading(&reading);
-  drop_memory(reading.view, snapshot->length);
-  drop_memory(reading.altered, bits);
+  drop_memory(reading.view, reading.length);
+  drop_memory(reading.altered, bits_of(reading.length));
   drop_memory(reading.part, PART);
   return result;
 }

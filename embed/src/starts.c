@@ -278,11 +278,21 @@ static int start(struct kefs_image *image, const struct kefs_range *ranges, size
   return result;
 }
 
+/* A commit that makes lengths durable takes new pages from where they are in memory. So it is made at once, and has the ticket of all that was started before. */
+static int commit_instead(struct kefs_image *image, const struct kefs_range *ranges, size_t count, size_t *taken, uint64_t *ticket) {
+  await_run(image);
+  int result = image->halted ? KEFS_HALTED : commit_started(image);
+  if (result == KEFS_OK) result = commit(image, ranges, count, taken);
+  if (result == KEFS_OK) *ticket = image->starts.last;
+  return result;
+}
+
 int kefs_commit_start(kefs_image *image, const struct kefs_range *ranges, size_t count, size_t *taken, uint64_t *ticket) {
   int result = enter_beside(image);
   if (result != KEFS_OK) return result;
   if (image->halted) return leave(image, KEFS_HALTED);
   if (image->read_only) return leave(image, fail(image, KEFS_READ_ONLY, "kefs_commit_start"));
   result = ticket == NULL ? fail(image, KEFS_BAD_ARGUMENT, "no place for the ticket") : check_ranges(image, ranges, count);
-  return leave(image, result == KEFS_OK ? start(image, ranges, count, taken, ticket) : result);
+  if (result != KEFS_OK) return leave(image, result);
+  return leave(image, (has_sizes(image, ranges, count) ? commit_instead : start)(image, ranges, count, taken, ticket));
 }

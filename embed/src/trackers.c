@@ -68,9 +68,9 @@ static size_t copy_unread(const struct mapping *mapping, size_t first, size_t en
 
 /* EAGAIN: the process's memory was being changed; again. */
 int fill_missing(const struct span *span) {
-  if (!span->mapping->image->lazy) return KEFS_OK;
-  for (size_t k = span->first; k < span->end;) {
-    size_t read = copy_unread(span->mapping, k, span->end);
+  size_t late = late_now(span->mapping), end = span->end < late ? span->end : late;
+  for (size_t k = span->first; k < end;) {
+    size_t read = copy_unread(span->mapping, k, end);
     if (read > 0) k += read;
     else if (errno == EEXIST) k++;
     else if (errno != EAGAIN) return errno == ENOMEM ? ENOMEM : EIO;
@@ -79,14 +79,14 @@ int fill_missing(const struct span *span) {
 }
 
 static int fill_around(const struct mapping *mapping, size_t k) {
-  size_t end = (k / AROUND + 1) * AROUND;
-  if (end > mapping->pages) end = mapping->pages;
-  return copy_unread(mapping, k, end) > 0 || errno == EEXIST || errno == EAGAIN;
+  size_t end = (k / AROUND + 1) * AROUND, late = late_now(mapping);
+  if (end > late) end = late;
+  return k < end && (copy_unread(mapping, k, end) > 0 || errno == EEXIST || errno == EAGAIN);
 }
 
 static int fill_slots_of(struct mapping *mapping) {
   int number = KEFS_OK;
-  for (size_t k = 0; k < mapping->pages && mapping->has_unread && number == KEFS_OK; k++)
+  for (size_t k = 0; k < mapping->late && mapping->has_unread && number == KEFS_OK; k++)
     if (mapping->slots[k] != 0) number = fill_missing(&(struct span){mapping, k, k + 1});
   if (number == KEFS_OK) mapping->has_unread = 0;
   return number;
@@ -143,12 +143,12 @@ static int open_span(const struct span *span) {
 static int is_dirty(const struct mapping *mapping, size_t k) { return (__atomic_load_n(&mapping->marks[k], __ATOMIC_SEQ_CST) & DIRTY) != 0; }
 
 static struct span up_to_open_page(const struct span *span) {
-  size_t below = span->first, above = span->end;
+  size_t below = span->first, above = span->end, pages = pages_now(span->mapping);
   while (below > 0 && !is_dirty(span->mapping, below - 1)) below--;
-  while (above < span->mapping->pages && !is_dirty(span->mapping, above)) above++;
-  int has_below = below > 0, has_above = above < span->mapping->pages;
+  while (above < pages && !is_dirty(span->mapping, above)) above++;
+  int has_below = below > 0, has_above = above < pages;
   if (has_below && (!has_above || span->first - below <= above - span->end)) return (struct span){span->mapping, below, span->end};
-  return has_above ? (struct span){span->mapping, span->first, above} : (struct span){span->mapping, 0, span->mapping->pages};
+  return has_above ? (struct span){span->mapping, span->first, above} : (struct span){span->mapping, 0, pages};
 }
 
 /* Opens these pages, or more: which ones. */
@@ -157,7 +157,7 @@ static int open_some(const struct span *span, struct span *opened) {
   if (span->mapping->image->tracker != TRACKER_SIGNAL || span->first == span->end || open_span(opened) == KEFS_OK) return KEFS_OK;
   *opened = up_to_open_page(span);
   if (open_span(opened) == KEFS_OK) return KEFS_OK;
-  *opened = (struct span){span->mapping, 0, span->mapping->pages};
+  *opened = (struct span){span->mapping, 0, pages_now(span->mapping)};
   return open_span(opened);
 }
 
@@ -187,10 +187,11 @@ static void on_store(int number, siginfo_t *info, void *context) {
   struct mapping *mapping = info->si_code == SEGV_ACCERR ? mapping_at(info->si_addr) : NULL;
   int ours = mapping != NULL && mapping->image->tracker == TRACKER_SIGNAL && !mapping->file.read_only && is_store(info, context);
   size_t k = ours ? (size_t)((unsigned char *)info->si_addr - mapping->at) / PAGE : 0;
-  if (!ours || open_pages(&(struct span){mapping, k, k + 1}) != KEFS_OK) pass_on(&before_store, number, info, context);
+  if (!ours || k >= pages_now(mapping) || open_pages(&(struct span){mapping, k, k + 1}) != KEFS_OK) pass_on(&before_store, number, info, context);
   errno = kept;
 }
 
+/* The first touch of a page that is read late. Past the last page it is the program's own fault, as in any mapped file. */
 static void on_missing(int number, siginfo_t *info, void *context) {
   int kept = errno;
   struct mapping *mapping = info->si_code == BUS_ADRERR ? mapping_at(info->si_addr) : NULL;
@@ -282,19 +283,29 @@ void end_tracking(struct kefs_image *image) {
 
 /* Reading a mapping */
 
-static int register_faults(struct mapping *mapping, uint64_t mode) {
-  struct uffdio_register all = {.range = {(uintptr_t)mapping->at, mapping->pages * PAGE}, .mode = mode};
-  return ioctl(mapping->image->faults, UFFDIO_REGISTER, &all) == 0 ? KEFS_OK : errno;
+static struct uffdio_range range_of(const struct span *span) {
+  return (struct uffdio_range){(uintptr_t)page_at(span->mapping, span->first), (span->end - span->first) * PAGE};
 }
 
-static int protect(struct mapping *mapping) {
-  struct uffdio_writeprotect all = {.range = {(uintptr_t)mapping->at, mapping->pages * PAGE}, .mode = UFFDIO_WRITEPROTECT_MODE_WP};
-  return ioctl(mapping->image->faults, UFFDIO_WRITEPROTECT, &all) == 0 ? KEFS_OK : errno;
+static int register_faults(const struct span *span, uint64_t mode) {
+  struct uffdio_register all = {.range = range_of(span), .mode = mode};
+  return ioctl(span->mapping->image->faults, UFFDIO_REGISTER, &all) == 0 ? KEFS_OK : errno;
+}
+
+static int protect(const struct span *span) {
+  struct uffdio_writeprotect all = {.range = range_of(span), .mode = UFFDIO_WRITEPROTECT_MODE_WP};
+  return ioctl(span->mapping->image->faults, UFFDIO_WRITEPROTECT, &all) == 0 ? KEFS_OK : errno;
+}
+
+int watch_stores(const struct span *span) {
+  if (span->mapping->image->tracker != TRACKER_SCAN || span->first == span->end) return KEFS_OK;
+  int number = register_faults(span, UFFDIO_REGISTER_MODE_WP);
+  return number == KEFS_OK ? protect(span) : number;
 }
 
 static int put_page(struct mapping *mapping, size_t k) {
   unsigned char bytes[PAGE];
-  copy_durable(mapping, k, bytes);
+  copy_durable(mapping->image, file_number(mapping), k, bytes);
   if (!mapping->image->lazy) return memcpy(page_at(mapping, k), bytes, PAGE), KEFS_OK;
   uint64_t mode = mapping->image->tracker == TRACKER_SCAN ? UFFDIO_COPY_MODE_WP : 0;
   struct uffdio_copy copy = {.dst = (uintptr_t)page_at(mapping, k), .src = (uintptr_t)bytes, .len = PAGE, .mode = mode};
@@ -304,7 +315,7 @@ static int put_page(struct mapping *mapping, size_t k) {
 }
 
 static int note_slot(struct mapping *mapping, size_t k, uint32_t sector) {
-  if (mapping->slots == NULL) mapping->slots = new_memory(mapping->pages * sizeof *mapping->slots);
+  if (mapping->slots == NULL) mapping->slots = new_memory(mapping->kept * sizeof *mapping->slots);
   if (mapping->slots == NULL) return ENOMEM;
   mapping->slots[k] = sector, mapping->has_unread = 1;
   return KEFS_OK;
@@ -342,13 +353,13 @@ static int read_homes(struct mapping *mapping) {
 
 int load(struct mapping *mapping) {
   struct kefs_image *image = mapping->image;
+  struct span all = {mapping, 0, mapping->pages};
   uint64_t write_mode = image->tracker == TRACKER_SCAN ? UFFDIO_REGISTER_MODE_WP : 0;
-  int number = image->lazy ? register_faults(mapping, UFFDIO_REGISTER_MODE_MISSING | write_mode) : read_homes(mapping);
+  if (mapping->pages == 0) return KEFS_OK;
+  mapping->late = image->lazy ? mapping->pages : 0;
+  int number = image->lazy ? register_faults(&all, UFFDIO_REGISTER_MODE_MISSING | write_mode) : read_homes(mapping);
   if (number == KEFS_OK) number = put_others(mapping);
-  if (number == KEFS_OK && !image->lazy && image->tracker == TRACKER_SCAN) {
-    number = register_faults(mapping, write_mode);
-    if (number == KEFS_OK) number = protect(mapping);
-  }
+  if (number == KEFS_OK && !image->lazy) number = watch_stores(&all);
   int closed = image->tracker == TRACKER_SIGNAL || image->read_only || mapping->file.read_only;
   if (number == KEFS_OK && closed && mprotect(mapping->at, mapping->pages * PAGE, PROT_READ) != 0) number = errno;
   return number;

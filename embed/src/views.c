@@ -82,7 +82,7 @@ static int read_homes(struct reading *reading, off_t from, off_t end) {
   return result;
 }
 
-/* Layout and directory of an image never change: with others the file was made anew in place. */
+/* The layout of an image never changes, nor, of layout 2, its directory: with others the file was made anew in place. */
 static int check_layout(struct reading *reading) {
   struct kefs_image *image = reading->image;
   struct layout layout = layout_of(image);
@@ -167,7 +167,7 @@ static int read_pool(struct reading *reading) {
   return KEFS_OK;
 }
 
-/* Each page of the directory is as it was, or, where it was not read yet, it is put into its home. */
+/* Puts a page of the directory into its home. */
 static int read_directory_page(struct reading *reading, uint32_t home) {
   unsigned char page[PAGE];
   const struct layout *layout = &reading->image->layout;
@@ -175,21 +175,22 @@ static int read_directory_page(struct reading *reading, uint32_t home) {
   off_t at = home_offset(layout, home);
   size_t sector = next_slotted(reading, at, at + PAGE, &place) == at ? place->sector : home_sector(layout, home);
   int result = read_at(reading, page, SECTOR * sector, PAGE);
-  if (result == KEFS_OK && !reading->has_files) put(reading, (size_t)at, page, PAGE);
   if (result != KEFS_OK || memcmp(page, view_at(reading, (size_t)at), PAGE) == 0) return result;
-  return fail(reading->image, KEFS_NOT_IMAGE, "another directory than before");
+  reading->has_files = 0;
+  return put(reading, (size_t)at, page, PAGE), KEFS_OK;
 }
 
+/* The files of a turn may be others than those of the turn before, and the image longer. What is read goes by them only where they lie in it. */
 static int read_pool_directory(struct reading *reading) {
   struct kefs_image *image = reading->image;
   int result = KEFS_OK;
+  image->stat.pages = home_pages(image);
   for (uint32_t home = 0; home < image->layout.directory_pages && result == KEFS_OK; home++) result = read_directory_page(reading, home);
   if (result != KEFS_OK || reading->has_files) return result;
   struct finding finding = check_image(image);
   if (finding.result != KEFS_OK) return fail(image, finding.result, "%s", finding.words);
-  image->stat.pages = home_pages(image);
   read_directory(image);
-  reading->has_files = 1;
+  reading->has_files = 1, reading->is_looked_at = 0;
   return KEFS_OK;
 }
 
@@ -239,17 +240,25 @@ static int read_range(struct reading *reading, off_t from, off_t end) {
   return result;
 }
 
-/* Reads the homes that commits before the last one have told of. */
-static int read_told(struct reading *reading) {
+static int read_list(struct reading *reading, off_t list) {
   const struct kefs_image *image = reading->image;
   int result = KEFS_OK;
   off_t count;
-  for (off_t state = reading->before + 1; state < reading->state && result == KEFS_OK; state++)
-    for (off_t at = next_run(reading, state, list_of(state), &count); count > 0 && result == KEFS_OK; at = next_run(reading, state, at + count, &count)) {
-      off_t home = at - list_of(state);
-      if ((uint64_t)(home + count) > image->stat.pages) return fail(image, KEFS_NOT_IMAGE, "a list of homes that are none");
-      result = read_range(reading, home_offset(&image->layout, (uint32_t)home), home_offset(&image->layout, (uint32_t)(home + count)));
-    }
+  for (off_t at = next_run(reading, list, list, &count); count > 0 && result == KEFS_OK; at = next_run(reading, list, at + count, &count)) {
+    off_t home = at - list;
+    if ((uint64_t)(home + count) > image->stat.pages) return fail(image, KEFS_NOT_IMAGE, "a list of homes that are none");
+    result = read_range(reading, home_offset(&image->layout, (uint32_t)home), home_offset(&image->layout, (uint32_t)(home + count)));
+  }
+  return result;
+}
+
+/* Reads the homes that commits have told of: of the last one those of new pages alone, since its journal or its slots tell the others. */
+static int read_told(struct reading *reading) {
+  int result = KEFS_OK;
+  for (off_t state = reading->before + 1; state <= reading->state && result == KEFS_OK; state++) {
+    if (state < reading->state) result = read_list(reading, list_of(state));
+    if (result == KEFS_OK) result = read_list(reading, new_list_of(state));
+  }
   return result;
 }
 
@@ -321,16 +330,22 @@ static int use_journal_turn(struct reading *reading, int is_told) {
   return result == KEFS_OK && (reading->state != 0 || is_read(reading)) ? carry_journal_out(reading) : result;
 }
 
-/* At the opening the proved part looks at what was read: a plan of the view, whose pool is empty, writes nothing. All that it looks at stays so. */
+/* The proved part looks at what was read at the opening, and at each directory after it. Of the view, whose pool is empty, it plans nothing but to write an
+   empty map anew. */
+static int look_at(struct reading *reading) {
+  int result = recover(reading->image);
+  if (result != KEFS_OK) return result;
+  make_calls(reading);
+  reading->is_looked_at = 1;
+  return KEFS_OK;
+}
+
 static int use_pool_turn(struct reading *reading, int is_told) {
   int result = read_pool_head(reading);
   if (result == KEFS_OK && is_told) result = read_told(reading);
   if (result == KEFS_OK && is_told) result = read_changed(reading);
   if (result == KEFS_OK) result = read_some(reading);
-  if (result != KEFS_OK || !is_read(reading) || reading->altered != NULL) return result;
-  result = recover(reading->image);
-  if (result == KEFS_OK) make_calls(reading);
-  return result;
+  return result == KEFS_OK && is_read(reading) && !reading->is_looked_at ? look_at(reading) : result;
 }
 
 int use_turn(struct reading *reading) {

@@ -1,6 +1,7 @@
 /* kefsrun.so, which kefsrun preloads: a program that keeps its data in ONE file runs on an image of libkefs, unmodified. By the environment:
-     KEFS_IMAGE=/abs/path    file 0 of the image is the bytes of the data file, and its length the most that the data file may grow to;
-                            file 1 is one page, whose first 8 bytes are the length of the data file now. So both become durable at once
+     KEFS_IMAGE=/abs/path    file 0 of the image is the data file, bytes and length, which become durable at once; file 1 is four bytes, of how long it may get.
+                            Older kefsruns made images of fixed lengths: file 0 is as long as the data file may get, and file 1 one page, whose
+                            first 8 bytes are the length of the data file now
      KEFS_FILE=/abs/path     the data file by the name that the program has for it: an empty file, for its name and its locks
      KEFS_COMMIT_AT=every    each msync(MS_SYNC), fsync and fdatasync is a commit of all that is written (the default)
                    fsync    msync is left to the fsync that follows it, as Kyoto and Tokyo Cabinet make both
@@ -22,10 +23,13 @@
 #include "bridge.h"
 #include <stdlib.h>
 #include <string.h>
+#include <sys/mman.h>
 #include <unistd.h>
 
 pthread_mutex_t lock = PTHREAD_RECURSIVE_MUTEX_INITIALIZER_NP;
+pthread_rwlock_t copying = PTHREAD_RWLOCK_INITIALIZER;
 struct data data;
+__thread int is_inside; /* so a signal's handler that ends the program must not make another */
 enum commit_at commit_at;
 
 static struct stat data_file;      /* st_ino is 0 where the program runs without an image */
@@ -34,7 +38,6 @@ static pid_t owner;                /* the process that has it. A child of vfork 
 static int is_child;               /* a process before it had the image, and this one has its descriptors */
 static int is_over;                /* the end of the program has closed the image */
 static pid_t first;                /* the process that the program began as, until it has looked at its end for what went past this */
-static __thread int is_inside;     /* this thread is in a call of the library, so a signal's handler that ends the program must not make another */
 
 int fail(int number) {
   errno = number;
@@ -48,7 +51,7 @@ int refuse(const char *what, int number) {
   return fail(number);
 }
 
-int too_long(void) { return refuse("more bytes than kefsrun -m gave", EFBIG); }
+int too_long(void) { return refuse("it may not get so long: kefsrun -m said how long, or it is 4 GiB less a byte", EFBIG); }
 
 /* The image */
 
@@ -86,23 +89,66 @@ int commit_own(void) {
   return result;
 }
 
-/* Maps file 1 of an image, which has the length, or says that the image is another one's: 0, or -1 and errno. */
-static int map_length(kefs_image *of, size_t most, uint64_t **at) {
-  size_t page;
-  int result = kefs_map(of, 1, NULL, (void **)at, &page);
+/* What an image says of the data file. `kept`: where one that an older kefsrun made has the length; else NULL. */
+struct facts { uint64_t most, length, *kept; };
+
+/* Whether these are facts of a data file, by what stands in file 1. */
+static int are_facts(struct facts *facts, void *page, size_t bytes) {
+  if (bytes == sizeof(uint32_t)) facts->most = *(uint32_t *)page;
+  else if (bytes >= sizeof(uint64_t)) facts->kept = page, facts->most = facts->length, facts->length = *facts->kept;
+  else return 0;
+  return facts->most > 0 && facts->length <= facts->most;
+}
+
+/* Reads the facts, and maps file 1; or says that the image is another one's: 0, or -1 and errno. */
+static int read_facts(kefs_image *of, struct facts *facts) {
+  void *page;
+  size_t bytes, length;
+  int result = kefs_length(of, 0, &length);
+  if (result == KEFS_OK) result = kefs_map(of, 1, NULL, &page, &bytes);
   if (result != KEFS_OK && result != KEFS_NO_FILE) return told(of, result);
-  if (result == KEFS_OK && *at != NULL && page >= sizeof **at && **at <= most) return 0;
-  say(getenv("KEFS_IMAGE"), "its files are not those that kefsrun -m makes");
+  *facts = (struct facts){.length = length};
+  if (result == KEFS_OK && are_facts(facts, page, bytes)) return 0;
+  say(getenv("KEFS_IMAGE"), "its files are not those of an image that kefsrun makes");
   return fail(EINVAL);
 }
 
-/* Maps both files. A store that was never opened has length 0. */
+/* Programs may map more than the data file may get, as LMDB does: behind it are more addresses, and a touch of these is a SIGBUS, as past the end of any file. */
+static const size_t more = (size_t)1 << 40;
+
+/* Keeps so many addresses in a row by a mapping of an empty file: where they begin, or NULL where there are not as many. A dump of the memory leaves them out,
+   which would take long. */
+static unsigned char *keep_addresses(size_t bytes) {
+  int nothing = memfd_create("kefsrun", MFD_CLOEXEC);
+  void *at = nothing < 0 ? MAP_FAILED : NEXT(mmap)(NULL, bytes, PROT_READ | PROT_WRITE, MAP_SHARED | MAP_NORESERVE, nothing, 0);
+  if (nothing >= 0) NEXT(close)(nothing);
+  if (at == MAP_FAILED) return NULL;
+  NEXT(madvise)(at, bytes, MADV_DONTDUMP);
+  return at;
+}
+
+/* Maps the data file, where it may get `room` bytes in whole pages, and finds how many may be mapped: no more than these where other addresses can't be had, or
+   another thread has taken some of them meanwhile. */
+static int map_bytes(uint64_t most, size_t *room, void **base) {
+  unsigned char *wanted = keep_addresses(*room + more);
+  if (wanted != NULL) NEXT(munmap)(wanted, *room);
+  int result = wanted == NULL ? EEXIST : kefs_map_growing(image, 0, wanted, most, base, NULL);
+  if (result == KEFS_OK) return *room += more, KEFS_OK;
+  if (wanted != NULL) NEXT(munmap)(wanted + *room, more);
+  return result == EEXIST ? kefs_map_growing(image, 0, NULL, most, base, NULL) : result;
+}
+
+/* Maps both files. */
 static int map_files(void) {
-  struct data mapped = {0};
-  int result = kefs_map(image, 0, NULL, (void **)&mapped.base, &mapped.most);
+  static uint64_t length;
+  struct facts facts;
+  void *base;
+  if (read_facts(image, &facts) != 0) return -1;
+  size_t room = (facts.most + KEFS_PAGE - 1) / KEFS_PAGE * KEFS_PAGE;
+  int result = map_bytes(facts.most, &room, &base);
   if (result != KEFS_OK) return told(image, result);
-  if (map_length(image, mapped.most, &mapped.length) != 0) return -1;
-  data = mapped;
+  length = facts.length;
+  data = (struct data){base, room, facts.most, facts.kept == NULL ? &length : facts.kept, facts.kept == NULL, 0};
   return 0;
 }
 
@@ -120,6 +166,7 @@ static void in_parent(void) { pthread_mutex_unlock(&lock); }
 /* A child has no image: what it inherits answers with EIO, and the parent's files stay as they are. */
 static void in_child(void) {
   lock = (pthread_mutex_t)PTHREAD_RECURSIVE_MUTEX_INITIALIZER_NP;
+  copying = (pthread_rwlock_t)PTHREAD_RWLOCK_INITIALIZER;
   if (image != NULL) is_child = 1;
   let_go();
 }
@@ -162,13 +209,10 @@ int answers(void) { return data.base != NULL ? 0 : is_child ? fail(EIO) : attach
 /* Reads the length and lets the image go: a look at a file is no reason why another program should not have it. */
 static int peek(uint64_t *to) {
   kefs_image *seen;
-  uint64_t *at;
-  size_t most;
+  struct facts facts;
   if (open_image(&seen, KEFS_RDONLY) != 0) return -1;
-  int result = kefs_length(seen, 0, &most);
-  result = result == KEFS_OK ? map_length(seen, most, &at) : told(seen, result);
-  int number = errno;
-  if (result == 0) *to = *at;
+  int result = read_facts(seen, &facts), number = errno;
+  if (result == 0) *to = facts.length;
   kefs_close(seen);
   return result == 0 ? 0 : fail(number);
 }
@@ -181,11 +225,28 @@ int length_now(uint64_t *to) {
   return result;
 }
 
-void lengthen(uint64_t end) {
-  if (__atomic_load_n(data.length, __ATOMIC_ACQUIRE) >= end) return;
-  pthread_mutex_lock(&lock);
-  if (*data.length < end) __atomic_store_n(data.length, end, __ATOMIC_RELEASE);
-  pthread_mutex_unlock(&lock);
+static void set_length(uint64_t to) {
+  if (*data.length != to) __atomic_store_n(data.length, to, __ATOMIC_RELEASE);
+}
+
+/* The image's file gets this length. */
+static int resize_image(uint64_t to) {
+  is_inside++;
+  int result = told(image, kefs_resize(image, 0, to));
+  is_inside--;
+  return result;
+}
+
+int make_room(uint64_t end) { return data.grows && *data.length < end ? resize_image(end) : 0; }
+
+void reach(uint64_t end) {
+  if (*data.length < end) set_length(end);
+}
+
+int lengthen(uint64_t end) {
+  int result = make_room(end);
+  if (result == 0) reach(end);
+  return result;
 }
 
 /* Makes the bytes from `at` on zeros. Pages of zeros are not stored to. */
@@ -200,14 +261,22 @@ static void clear_from(size_t at) {
 }
 
 /* What the data file has lost reads as zeros when it grows again. */
+static int shorten(uint64_t to) {
+  pthread_rwlock_wrlock(&copying);
+  if (!data.grows) clear_from((size_t)to);
+  int result = data.grows ? resize_image(to) : 0;
+  if (result == 0) set_length(to);
+  pthread_rwlock_unlock(&copying);
+  return result;
+}
+
 int resize(off_t to) {
   if (to < 0) return fail(EINVAL);
   if ((size_t)to > data.most) return too_long();
   pthread_mutex_lock(&lock);
-  clear_from((size_t)to);
-  if (*data.length != (uint64_t)to) __atomic_store_n(data.length, (uint64_t)to, __ATOMIC_RELEASE);
+  int result = (uint64_t)to < *data.length ? shorten((uint64_t)to) : lengthen((uint64_t)to);
   pthread_mutex_unlock(&lock);
-  return 0;
+  return result;
 }
 
 /* Which file is meant */

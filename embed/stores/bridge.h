@@ -18,8 +18,10 @@ _Static_assert(sizeof(off_t) == 8 && sizeof(struct stat) == sizeof(struct stat64
 /* The data file, where this process has the image: else `base` is NULL. */
 extern struct data {
   unsigned char *base; /* its bytes */
+  size_t room;         /* how many may be mapped: addresses from `base` on that nothing else gets */
   size_t most;         /* how many they may be */
   uint64_t *length;    /* how many they are */
+  int grows;           /* the memory has as many; of an image that an older kefsrun made it has as many as they may be */
   size_t mapped;       /* of the program's mapping from byte 0 on */
 } data;
 
@@ -28,6 +30,12 @@ extern enum commit_at { EVERY, AT_FSYNC, AT_PART } commit_at;
 
 /* Held to open the image, to change the length, and by calls at a descriptor's place. A thread may take it twice. */
 extern pthread_mutex_t lock;
+
+/* Shared by calls while they copy bytes, and held alone to take memory away: a copy beside that would end the program. With both, `lock` comes first. */
+extern pthread_rwlock_t copying;
+
+/* This thread is in a call of the library, whose own calls on the memory of the data file are let through. */
+extern __thread int is_inside;
 
 /* -1 and errno. */
 int fail(int number);
@@ -62,8 +70,11 @@ int length_now(uint64_t *to);
 /* The data file shrinks or grows: 0, or -1 and errno. */
 int resize(off_t to);
 
-/* It has at least this length from now on, which is at most data.most. */
-void lengthen(uint64_t end);
+/* For a thread that holds `lock`, of at most data.most bytes. make_room has memory for so many, of which those behind the length are zeros, and from `reach`
+   on the length is at least that; lengthen does both. 0, or -1 and errno. */
+int make_room(uint64_t end);
+void reach(uint64_t end);
+int lengthen(uint64_t end);
 
 /* Says that it would be longer than it may be: -1 and EFBIG. */
 int too_long(void);

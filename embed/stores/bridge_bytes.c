@@ -24,19 +24,19 @@ static int flags_to_write(int fd) { return flags_for(fd, O_RDONLY); }
 
 /* Mapping */
 
-static int in_data(const void *at) { return data.base != NULL && (unsigned char *)at >= data.base && (unsigned char *)at < data.base + data.most; }
+static int in_data(const void *at) { return data.base != NULL && (unsigned char *)at >= data.base && (unsigned char *)at < data.base + data.room; }
 
 /* Whether a mapping at this place would take memory of the data file away. */
 static int covers_data(const void *at, size_t bytes) {
   unsigned char *begin = (unsigned char *)at;
-  return data.base != NULL && begin < data.base + data.most && bytes > 0 && (begin >= data.base || (size_t)(data.base - begin) < bytes);
+  return data.base != NULL && begin < data.base + data.room && bytes > 0 && (begin >= data.base || (size_t)(data.base - begin) < bytes);
 }
 
 static void *refuse_map(const char *what, int number) { return refuse(what, number), MAP_FAILED; }
 
 void *mmap(void *wanted, size_t bytes, int prot, int flags, int fd, off_t offset) {
   if (flags & MAP_ANONYMOUS || !is_data(fd)) {
-    if (flags & MAP_FIXED && covers_data(wanted, bytes)) return refuse_map("a mapping over its own", ENOTSUP);
+    if (flags & MAP_FIXED && covers_data(wanted, bytes) && !is_inside) return refuse_map("a mapping over its own", ENOTSUP);
     return NEXT(mmap)(wanted, bytes, prot, flags, fd, offset);
   }
   int mode = flags_to_read(fd);
@@ -45,16 +45,16 @@ void *mmap(void *wanted, size_t bytes, int prot, int flags, int fd, off_t offset
   if (!(flags & MAP_SHARED)) return refuse_map("a private mapping", ENOTSUP);
   if (prot & PROT_WRITE && (mode & O_ACCMODE) != O_RDWR) return errno = EACCES, MAP_FAILED;
   if (bytes == 0 || offset < 0 || offset % KEFS_PAGE != 0) return errno = EINVAL, MAP_FAILED;
-  if ((size_t)offset > data.most || bytes > data.most - (size_t)offset) return refuse_map("a mapping beyond the length that kefsrun -m gave", ENOMEM);
+  if ((size_t)offset > data.room || bytes > data.room - (size_t)offset) return refuse_map("a mapping of over a TiB", ENOMEM);
   if (offset == 0) data.mapped = bytes;
   return data.base + offset;
 }
 void *mmap64(void *wanted, size_t bytes, int prot, int flags, int fd, off_t offset) { return mmap(wanted, bytes, prot, flags, fd, offset); }
 
-/* All of the file is mapped already, so a mapping grows and shrinks where it is. */
+/* All has its addresses already, so a mapping grows and shrinks where it is. */
 static void *remap(void *at, size_t to, int flags) {
   if (flags & ~MREMAP_MAYMOVE) return refuse_map("mremap to elsewhere", ENOTSUP);
-  if (to > data.most - (size_t)((unsigned char *)at - data.base)) return refuse_map("a mapping beyond the length that kefsrun -m gave", ENOMEM);
+  if (to > data.room - (size_t)((unsigned char *)at - data.base)) return refuse_map("a mapping of over a TiB", ENOMEM);
   if (at == (void *)data.base) data.mapped = to;
   return at;
 }
@@ -76,7 +76,7 @@ int munmap(void *at, size_t bytes) {
 }
 
 /* Advice is no more than that, but for MADV_DONTNEED, which would drop what is not committed. */
-int madvise(void *at, size_t bytes, int advice) { return in_data(at) ? 0 : NEXT(madvise)(at, bytes, advice); }
+int madvise(void *at, size_t bytes, int advice) { return in_data(at) && !is_inside ? 0 : NEXT(madvise)(at, bytes, advice); }
 
 /* Syncs */
 
@@ -100,10 +100,11 @@ void sync(void) {
 
 /* Copies bytes of the file: how many there were. */
 static size_t copy_from(off_t at, void *to, size_t bytes) {
-  uint64_t end = __atomic_load_n(data.length, __ATOMIC_ACQUIRE);
-  if ((uint64_t)at >= end) return 0;
-  if (bytes > end - (uint64_t)at) bytes = end - (uint64_t)at;
+  pthread_rwlock_rdlock(&copying);
+  uint64_t end = __atomic_load_n(data.length, __ATOMIC_ACQUIRE), left = (uint64_t)at < end ? end - (uint64_t)at : 0;
+  if (bytes > left) bytes = left;
   memcpy(to, data.base + at, bytes);
+  pthread_rwlock_unlock(&copying);
   return bytes;
 }
 
@@ -157,13 +158,29 @@ ssize_t __read_chk(int fd, void *to, size_t bytes, size_t room) { return bytes >
 
 /* Writes */
 
+/* Stores bytes that lie in the file as it is: whether they do. */
+static int store_within(off_t at, const void *from, size_t bytes) {
+  pthread_rwlock_rdlock(&copying);
+  int is_within = (uint64_t)at + bytes <= __atomic_load_n(data.length, __ATOMIC_ACQUIRE);
+  if (is_within) memcpy(data.base + at, from, bytes);
+  pthread_rwlock_unlock(&copying);
+  return is_within;
+}
+
+/* Stores bytes of which some may lie behind the end: 0, or -1 and errno. Nobody sees the new length before the bytes are there. */
+static int store_beyond(off_t at, const void *from, size_t bytes) {
+  pthread_mutex_lock(&lock);
+  int result = make_room((uint64_t)at + bytes);
+  if (result == 0) memcpy(data.base + at, from, bytes), reach((uint64_t)at + bytes);
+  pthread_mutex_unlock(&lock);
+  return result;
+}
+
 /* Stores bytes, and lengthens the file where they end beyond it: 0, or -1 and errno. No bytes lengthen nothing. */
 static int store(off_t at, const void *from, size_t bytes) {
   if (bytes == 0) return 0;
   if ((size_t)at > data.most || bytes > data.most - (size_t)at) return too_long();
-  memcpy(data.base + at, from, bytes);
-  lengthen((uint64_t)at + bytes);
-  return 0;
+  return store_within(at, from, bytes) ? 0 : store_beyond(at, from, bytes);
 }
 
 /* Stores parts one after the other: how many bytes, or -1 and errno where the first ones did not go. */
@@ -267,15 +284,18 @@ int truncate(const char *path, off_t to) {
 }
 int truncate64(const char *path, off_t to) { return truncate(path, to); }
 
-/* Room is there, up to the length that kefsrun -m gave. */
+/* What gets longer is zeros, which have room on the disk when they are durable. */
 static int allocate(int fd, int mode, off_t at, off_t bytes) {
   off_t end;
   if (flags_to_write(fd) < 0) return -1;
   if (at < 0 || bytes <= 0) return fail(EINVAL);
   if (mode != 0 && mode != FALLOC_FL_KEEP_SIZE) return refuse("fallocate in this mode", EOPNOTSUPP);
   if (__builtin_add_overflow(at, bytes, &end) || (size_t)end > data.most) return too_long();
-  if (mode == 0) lengthen((uint64_t)end);
-  return 0;
+  if (mode != 0) return 0;
+  pthread_mutex_lock(&lock);
+  int result = lengthen((uint64_t)end);
+  pthread_mutex_unlock(&lock);
+  return result;
 }
 int fallocate(int fd, int mode, off_t at, off_t bytes) { return is_data(fd) ? allocate(fd, mode, at, bytes) : NEXT(fallocate)(fd, mode, at, bytes); }
 int fallocate64(int fd, int mode, off_t at, off_t bytes) { return fallocate(fd, mode, at, bytes); }

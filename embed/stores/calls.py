@@ -1,8 +1,10 @@
-"""calls.py FILE SEED COUNT: makes random calls on a file and prints what each of them gave. What it prints has to be the same
-under kefsrun as without."""
+"""calls.py FILE SEED COUNT [synced|killed]: makes random calls on a file and prints what each of them gave. What it prints has to be the same
+under kefsrun as without. synced: the file as the last sync left it is FILE.synced; killed: it ends by a kill, after which that is durable under kefsrun."""
 import mmap
 import os
 import random
+import shutil
+import signal
 import sys
 
 MOST = 1 << 16  # bytes of the file
@@ -66,6 +68,13 @@ def reopened():
     return length
 
 
+def synced(call, *words):
+    """What a sync gave."""
+    call(*words)
+    if sys.argv[4:] == ["synced"]:
+        shutil.copyfile(path, f"{path}.synced")
+
+
 CALLS = (
     lambda: os.pwrite(fd, some(), place()),
     lambda: os.pread(fd, rng.randrange(5000), place()),
@@ -78,9 +87,9 @@ CALLS = (
     lambda: os.lseek(fd, -min(9, os.fstat(fd).st_size), os.SEEK_END),
     lambda: os.ftruncate(fd, place()),
     lambda: (os.stat(path).st_size, os.lstat(path).st_size, os.fstat(fd).st_size),
-    lambda: os.fsync(fd),
-    lambda: os.fdatasync(fd),
-    mapped.flush,
+    lambda: synced(os.fsync, fd),
+    lambda: synced(os.fdatasync, fd),
+    lambda: synced(mapped.flush),
     stored,
     reopened,
     appended,
@@ -94,4 +103,6 @@ for number in range(int(sys.argv[3])):
     k = rng.randrange(len(CALLS))
     given = CALLS[k]()
     print(number, k, given.hex() if isinstance(given, bytes) else given)
-print(os.pread(fd, MOST, 0).hex())
+print(os.pread(fd, MOST, 0).hex(), flush=True)
+if sys.argv[4:] == ["killed"]:
+    os.kill(os.getpid(), signal.SIGKILL)

@@ -6,6 +6,7 @@
 #include <fcntl.h>
 #include <linux/fs.h>
 #include <pthread.h>
+#include <setjmp.h>
 #include <signal.h>
 #include <stdint.h>
 #include <stdio.h>
@@ -90,6 +91,65 @@ static void threads(void) {
     wrong += st.st_size != 8 * 64;
   }
   printf("wrong: %d\n", wrong);
+}
+
+/* Whether a byte of a mapping can be read: past the last page of its file that is a SIGBUS. */
+static sigjmp_buf back;
+static void go_back(int number) { siglongjmp(back, number); }
+static int is_there(const volatile char *at) {
+  signal(SIGBUS, go_back);
+  return sigsetjmp(back, 1) == 0 ? (void)*at, 1 : 0;
+}
+
+/* A mapping of more than there is shows what the file gets, and what it loses is gone from it. */
+static void past_the_end(void) {
+  int fd = opened(path);
+  must(ftruncate(fd, 5000) == 0, "ftruncate");
+  char *at = mmap(NULL, 1 << 20, PROT_READ | PROT_WRITE, MAP_SHARED, fd, 0);
+  must(at != MAP_FAILED, "mmap");
+  printf("%d %d %d, ", is_there(at), is_there(at + 8191), is_there(at + 8192));
+  put(fd, "pages on", 5 * 4096);
+  printf("%s %d %d, ", at + 5 * 4096, is_there(at + 2 * 4096), is_there(at + 6 * 4096));
+  strcpy(at + 3 * 4096, "stored");
+  must(ftruncate(fd, 4096) == 0, "ftruncate");
+  printf("%d %d, ", is_there(at), is_there(at + 4096));
+  must(ftruncate(fd, 1 << 20) == 0, "ftruncate");
+  printf("%d %d %d\n", at[3 * 4096], at[5 * 4096], is_there(at + (1 << 20) - 1));
+}
+
+/* As LMDB has it, whose map may be far larger than the file gets. */
+static void mapped_widely(void) {
+  int fd = opened(path);
+  size_t most = (size_t)1 << 40;
+  char *at = mmap(NULL, most, PROT_READ | PROT_WRITE, MAP_SHARED, fd, 0);
+  must(at != MAP_FAILED, "mmap");
+  put(fd, "bytes", 70000);
+  strcpy(at + 100, "stored");
+  must(msync(at, most, MS_SYNC) == 0, "msync");
+  printf("%s %d %d %d\n", at + 70000, is_there(at + 73728), is_there(at + most / 2), is_there(at + most - 1));
+  must(munmap(at, most) == 0, "munmap");
+}
+
+/* One thread cuts the file off, and others read and write it meanwhile. */
+static void *use(void *first) {
+  static const char zeros[3 * 4096];
+  char bytes[3 * 4096];
+  for (long k = (long)(intptr_t)first; k < 20000; k++) {
+    off_t at = k * 2797 % (60 * 4096);
+    if (k % 3 == 0) must(pwrite(shared_fd, zeros, sizeof zeros, at) == (ssize_t)sizeof zeros, "pwrite");
+    else must(pread(shared_fd, bytes, sizeof bytes, at) >= 0, "pread");
+  }
+  return NULL;
+}
+
+static void cut_meanwhile(void) {
+  pthread_t thread[2];
+  shared_fd = opened(path);
+  for (long k = 0; k < 2; k++) must(pthread_create(&thread[k], NULL, use, (void *)(intptr_t)k) == 0, "thread");
+  for (long k = 0; k < 2000; k++) must(ftruncate(shared_fd, k * 4099 % (1 << 18)) == 0, "ftruncate");
+  for (int k = 0; k < 2; k++) pthread_join(thread[k], NULL);
+  must(ftruncate(shared_fd, 3) == 0 && fsync(shared_fd) == 0, "fsync");
+  printf("whole\n");
 }
 
 /* A child of vfork has the memory of its parent, and descriptors of its own. */
@@ -191,7 +251,8 @@ static void interrupted(void) {
 }
 
 static const struct { const char *name; void (*run)(void); } cases[] = {
-  {"fclosed", fclosed}, {"closed_by_the_system", closed_by_the_system}, {"remapped", remapped}, {"threads", threads}, {"vforked", vforked},
+  {"fclosed", fclosed}, {"closed_by_the_system", closed_by_the_system}, {"remapped", remapped}, {"threads", threads},
+  {"past_the_end", past_the_end}, {"mapped_widely", mapped_widely}, {"cut_meanwhile", cut_meanwhile}, {"vforked", vforked},
   {"written_stream", written_stream}, {"open_stream", open_stream}, {"read_stream", read_stream}, {"reopened_stream", reopened_stream}, {"facts", facts},
   {"allocated", allocated}, {"asynchronous", asynchronous}, {"cloned", cloned}, {"called", called}, {"ended", ended}, {"ended_quickly", ended_quickly},
   {"interrupted", interrupted},

@@ -1,10 +1,11 @@
-"""crashes.py OUT STATES SEED LAYOUT: what power cuts leave of four stores, alone and over kefs, as a table in Markdown.
+"""crashes.py OUT STATES SEED IMAGES: what power cuts leave of five stores and of a file, alone and over kefs, as a table in Markdown.
 
 OUT holds what `run` builds. Of each store STATES states are tried over kefs, in equal parts over its rows, and of each row at most ALONE_MOST alone:
 a third of them in each model of powercuts.py, in rounds of one recorded run each. A state is bad where `workload check` finds it as after no transaction,
 where the store refuses, crashes or hangs, and where a transaction is missing that was acknowledged. Alone a store may repair itself first. Over kefs it
-may not; the state is read twice, apart from the library (tools/imagecat) and by kefsrun, and has to be the same. Images are of LAYOUT: 4, as kefsrun
-makes them, or 2.
+may not, but for SQLite, whose log is a file of the host there too. The state is read twice, apart from the library (tools/imagecat) and by kefsrun, and has
+to be the same. IMAGES: `4`, as kefsrun makes them, in which the data file grows; or, as older kefsruns made them, of a fixed length, `fixed` of layout 4, or
+`2` of layout 2.
 
 The last row is a control: a disk that ignores one sync in three, over which no library keeps anything whole. Where no state of it is bad this
 test is blind. The exit status is 1 then, or where a state over kefs is bad, else 0.
@@ -29,7 +30,8 @@ from images import new_image  # noqa: E402
 
 IMAGECAT = os.path.join(HERE, "..", "..", "tools", "imagecat")
 ROOM = 2 << 20  # as workload.h has it
-LENGTH_FILE = 4096  # bytes of the image's other file, as kefsrun makes it
+LENGTH_FILE = 4096  # bytes of the other file of an image of a fixed length
+FIXED = {"fixed": 4, "2": 2}  # their layouts
 BEFORE, RECORDED = 100, 60  # transactions that are durable before a recorded run, and of it
 ROUND = 50  # states of a model and a recorded run
 ALONE_MOST = 300  # states of a row
@@ -38,12 +40,13 @@ PATIENCE = 20  # seconds
 
 class Row(NamedTuple):
     """A store, how it makes a transaction durable, and its mode in workload.c. `commit_at`: the option of kefsrun over kefs; None where it is
-    only tried alone."""
+    only tried alone. `log`: what the name of its log has more than that of its file."""
 
     store: str
     way: str
     mode: str
     commit_at: str | None
+    log: str = ".wal"
 
 
 ROWS = (
@@ -55,6 +58,10 @@ ROWS = (
     Row("Tokyo Cabinet", "`tchdbsync`", "tokyo", "fsync"),
     Row("Tokyo Cabinet", "its transactions", "tokyo-transactions", None),
     Row("gdbm", "`gdbm_sync`", "gdbm", "every"),
+    Row("SQLite", "its rollback journal", "sqlite", "every", "-journal"),
+    Row("SQLite", "its WAL", "sqlite-wal-psow", None, "-wal"),
+    Row("SQLite", "its WAL, `psow=0`", "sqlite-wal", "every", "-wal"),
+    Row("a file", "written anew in its place", "rewritten", "every"),
 )
 CONTROL = Row("control: gdbm", "on a disk that ignores one sync in three", "gdbm", "every")
 CONTROL_IGNORES, CONTROL_STATES = 3, 300
@@ -65,6 +72,8 @@ OWN = {
     "kyoto": (["kchashmgr", "check"],),
     "tokyo": (["tchmgr", "list", "-pv"],),
     "gdbm": (["gdbm_dump"],),
+    "rewritten": (["cat"],),
+    "sqlite": (["sh", "-c", 'test "$(sqlite3 "$0" "pragma integrity_check")" = ok'],),
 }
 
 
@@ -107,16 +116,19 @@ def imagecat(image, file):
 
 def read_apart(image):
     """The data file's bytes by a reader that shares no code with the library; None where the image is none."""
-    data, length = imagecat(image, 0), imagecat(image, 1)
-    return None if data is None or length is None else data[:int.from_bytes(length[:8], "little")]
+    data, other = imagecat(image, 0), imagecat(image, 1)
+    if data is None or other is None:
+        return None
+    return data[:int.from_bytes(other[:8], "little")] if len(other) == LENGTH_FILE else data
 
 
 class Trial:
     """One row, alone or over kefs, in a folder of its own."""
 
-    def __init__(self, row, out, folder, layout=None):
-        self.row, self.out, self.folder, self.layout = row, out, folder, layout
-        self.is_kefs = layout is not None
+    def __init__(self, row, out, folder, images=None):
+        self.row, self.out, self.folder, self.images = row, out, folder, images
+        self.is_kefs = images is not None
+        self.grown = collections.Counter()
         self.store = next(it for it in OWN if row.mode.startswith(it))
 
     def path(self, name):
@@ -130,20 +142,22 @@ class Trial:
 
     def kefsrun(self, name):
         """The words of kefsrun before a command."""
-        return [os.path.join(self.out, "kefsrun"), "-m", str(ROOM), "-c", self.row.commit_at, self.path(f"{name}.img"), self.path(f"{name}.db"), "--"]
+        return [os.path.join(self.out, "kefsrun"), "-c", self.row.commit_at, self.path(f"{name}.img"), self.path(f"{name}.db"), "--"]
 
     def recorded(self, seed):
         """Runs the workload: the bytes of the file, or of the image, before the recorded part, and the trace of that."""
         self.clear("run")
-        if self.is_kefs and self.layout != 4:
-            written(self.path("run.img"), new_image([ROOM, LENGTH_FILE], layout=self.layout))
+        if self.images in FIXED:
+            written(self.path("run.img"), new_image([ROOM, LENGTH_FILE], layout=FIXED[self.images]))
         file, trace = self.path("run.img" if self.is_kefs else "run.db"), self.path("run.trace")
+        names = {"RECORDED": file, "LOGGED": self.path("run.db" + self.row.log), "TRACE": trace}
         self.must_run(self.workload("run", "run", str(seed), str(BEFORE)))
         with open(file, "rb") as content:
             base = content.read()
-        if self.is_kefs and not base.startswith(b"FAMSYNC%d" % self.layout):
-            sys.exit(f"crashes: {file} is not of layout {self.layout}")
-        self.must_run(self.workload("run", "run", str(seed), str(RECORDED)), RECORDED=file, TRACE=trace, LD_PRELOAD=os.path.join(self.out, "recorder.so"))
+        before = len(read_apart(file)) if self.is_kefs else 0
+        self.must_run(self.workload("run", "run", str(seed), str(RECORDED)), LD_PRELOAD=os.path.join(self.out, "recorder.so"), **names)
+        if self.is_kefs:
+            self.grown[len(read_apart(file)) > before] += 1
         return base, trace
 
     def must_run(self, command, **environment):
@@ -154,7 +168,7 @@ class Trial:
 
     def clear(self, name):
         """Removes a store, its log, its lock and its image."""
-        for end in (".db", ".db-lock", ".db.wal", ".img"):
+        for end in (".db", ".db-lock", ".db.wal", ".db-journal", ".db-wal", ".db-shm", ".img"):
             if os.path.exists(self.path(name + end)):
                 os.unlink(self.path(name + end))
 
@@ -162,19 +176,24 @@ class Trial:
         """Puts a state down as a store without an image."""
         self.clear("state")
         written(self.path("state.db"), content)
+        self.place_log("state", log)
+
+    def place_log(self, name, log):
+        """Puts down the log of a state, which is a file of the host over kefs too."""
         if log is not None:
-            written(self.path("state.db.wal"), log)
+            written(self.path(f"{name}.db{self.row.log}"), log)
 
     def verdict(self, state, log, seed, acknowledged):
         """What a state is."""
         if not self.is_kefs:
             return self.verdict_of_plain(state, log, seed, acknowledged)[0]
+        self.clear("cut")
         written(self.path("cut.img"), state)
         content = read_apart(self.path("cut.img"))
         if content is None:
             return Verdict("refused", True)
-        verdict, text = self.verdict_of_plain(content, None, seed, acknowledged)
-        written(self.path("cut.db"), b"")
+        verdict, text = self.verdict_of_plain(content, log, seed, acknowledged)
+        self.place_log("cut", log)
         by_library = ran(self.workload("cut", "check", str(seed), "unrepaired"))[1]
         return verdict if by_library == text else verdict._replace(what="differs")
 
@@ -241,42 +260,45 @@ def say_row(row, alone, over):
     print("|", " | ".join([f"{row.store}, {row.way}", *cells]), "|", flush=True)
 
 
-def table(out, folder, states, seed, layout):
+def table(out, folder, states, seed, images):
     """Prints the table and, below it, what was found over kefs; gives the exit status."""
     print("Bad states; in brackets those that the store's own tools refuse, bad or not.\n")
     print("| Store | alone: page | sector | torn | over kefs: page | sector | torn |\n|---|---|---|---|---|---|---|", flush=True)
-    found = collections.defaultdict(collections.Counter)
+    found, grown = collections.defaultdict(collections.Counter), collections.defaultdict(collections.Counter)
     rows_over = collections.Counter(row.store for row in ROWS if row.commit_at is not None)
     for row in ROWS:
         alone = tried(Trial(row, out, folder), min(states, ALONE_MOST), seed)
-        over = NOT_TRIED if row.commit_at is None else tried(Trial(row, out, folder, layout), -(-states // rows_over[row.store]), seed)
+        trial = Trial(row, out, folder, images)
+        over = NOT_TRIED if row.commit_at is None else tried(trial, -(-states // rows_over[row.store]), seed)
+        grown[row.store].update(trial.grown)
         say_kinds(row, "alone", alone)
         if over is not NOT_TRIED:
             say_kinds(row, "over kefs", over)
             for tally in over.values():
                 found[row.store].update(tally)
         say_row(row, alone, over)
-    control = tried(Trial(CONTROL, out, folder, layout), CONTROL_STATES, seed, CONTROL_IGNORES)
+    control = tried(Trial(CONTROL, out, folder, images), CONTROL_STATES, seed, CONTROL_IGNORES)
     say_kinds(CONTROL, "control", control)
     say_row(CONTROL, NOT_TRIED, control)
     print()
     for name, tally in found.items():
-        print(f"{name}: {sum(tally.values()) - tally['own']} states over kefs, layout {layout}, {bad(tally)} bad")
+        more = f"; its file grew in {grown[name][True]} of {grown[name].total()} recorded runs"
+        print(f"{name}: {sum(tally.values()) - tally['own']} states over kefs, images {images}, {bad(tally)} bad{more}")
     blind = not any(bad(tally) for tally in control.values())
     if blind:
         print("crashes: the control has no bad state: this test is blind")
     return 1 if blind or any(bad(tally) for tally in found.values()) else 0
 
 
-def main(out, states, seed, layout):
+def main(out, states, seed, images):
     folder = tempfile.mkdtemp(prefix="stores.", dir="/dev/shm" if os.access("/dev/shm", os.W_OK) else None)
     try:
-        return table(out, folder, states, seed, layout)
+        return table(out, folder, states, seed, images)
     finally:
         shutil.rmtree(folder)
 
 
 if __name__ == "__main__":
-    if len(sys.argv) != 5:
-        sys.exit("usage: crashes.py OUT STATES SEED LAYOUT")
-    sys.exit(main(sys.argv[1], *map(int, sys.argv[2:])))
+    if len(sys.argv) != 5 or sys.argv[4] not in ("4", *FIXED):
+        sys.exit("usage: crashes.py OUT STATES SEED 4|fixed|2")
+    sys.exit(main(sys.argv[1], int(sys.argv[2]), int(sys.argv[3]), sys.argv[4]))

@@ -20,15 +20,15 @@
 #include <unistd.h>
 
 static const char usage[] =
-  "usage: kefsrun [-v] [-c every|fsync|part] [-m LENGTH [-i]] IMAGE DATAFILE -- COMMAND [ARGUMENT...]\n"
+  "usage: kefsrun [-v] [-c every|fsync|part] [-m LENGTH] [-i] IMAGE DATAFILE -- COMMAND [ARGUMENT...]\n"
   "\n"
   "Runs COMMAND, whose reads, writes and mappings of DATAFILE go to IMAGE. What COMMAND syncs becomes durable all at once:\n"
   "after a crash or a power cut IMAGE holds what one of its syncs left, the last one that returned or a later one.\n"
-  "DATAFILE stays empty; it is made where it is missing, for its name and its locks.\n"
+  "IMAGE is made where it is missing, and grows with the data file. DATAFILE stays empty; it is made where it is missing, for its name and its locks.\n"
   "\n"
-  "  -m LENGTH  makes IMAGE where it is missing, for a data file of at most LENGTH bytes (K, M, G: times 1,024). COMMAND may map no\n"
-  "             more than that: LMDB's map size, Kyoto Cabinet's msiz and Tokyo Cabinet's xmsiz (64M unless they are set)\n"
-  "  -i         takes the bytes of DATAFILE into the image that -m makes, and keeps the file as DATAFILE.before\n"
+  "  -m LENGTH  the IMAGE that is made is for a data file of at most LENGTH bytes (K, M, G: times 1,024), else of 4 GiB less 1. COMMAND may map more, as\n"
+  "             LMDB, Kyoto Cabinet and Tokyo Cabinet do\n"
+  "  -i         takes the bytes of DATAFILE into the IMAGE that is made, and keeps the file as DATAFILE.before\n"
   "  -c every   each msync, fsync and fdatasync is a commit (the default; for gdbm, and where nothing is known)\n"
   "  -c fsync   fsync and fdatasync alone: for a program that makes both of each sync, as Kyoto and Tokyo Cabinet\n"
   "  -c part    not an msync of the whole mapping: for LMDB with MDB_WRITEMAP, which syncs its root page after it\n"
@@ -37,11 +37,13 @@ static const char usage[] =
   "COMMAND may be any program: a copy by tar or cp has the bytes of DATAFILE. What can't be done to it, as rename, is refused in a line. One process has\n"
   "IMAGE at a time, and a shell that redirects to or from DATAFILE is one; stat alone holds nothing.\n"
   "\n"
-  "A commit takes at least 2,016 pages of 4,096 bytes, 1,023 of an IMAGE that an older kefsrun made; a larger one may fail with E2BIG.\n"
+  "A commit takes all pages of 4,096 bytes that DATAFILE has grown by, and 4,031 others, of an IMAGE that an older kefsrun made 1,023. With more it fails\n"
+  "with E2BIG. An IMAGE that an older kefsrun made does not grow: 'kefsrun OLD FILE -- cat FILE >COPY' writes it out, and -i takes COPY into a new one.\n"
   "COMMAND has to be linked dynamically. Its exit status is\n"
   "kefsrun's; 2 is a wrong word here, 125 another failure of kefsrun, 126 and 127 a COMMAND that cannot be run or is not there.\n";
 
-struct options { const char *commit_at, *image, *data; uint32_t length; int is_verbose, is_import; char **command; };
+/* `most`: how long the data file of an image that is made may get. */
+struct options { const char *commit_at, *image, *data; uint32_t most; int is_verbose, is_import; char **command; };
 
 /* Says what failed and ends the program with status 125. */
 _Noreturn static void quit(const char *what, const char *why) {
@@ -66,36 +68,32 @@ static uint32_t length_of(const char *text) {
 }
 
 static struct options options_of(int count, char **words) {
-  struct options found = {.commit_at = "every"};
+  struct options found = {.commit_at = "every", .most = UINT32_MAX};
   for (int letter; (letter = getopt(count, words, "+c:im:v")) != -1;) {
     if (letter == 'c') found.commit_at = optarg;
     else if (letter == 'i') found.is_import = 1;
-    else if (letter == 'm') found.length = length_of(optarg);
+    else if (letter == 'm') found.most = length_of(optarg);
     else if (letter == 'v') found.is_verbose = 1;
     else misused();
   }
   if (strcmp(found.commit_at, "every") != 0 && strcmp(found.commit_at, "fsync") != 0 && strcmp(found.commit_at, "part") != 0) misused();
-  if (found.is_import && found.length == 0) misused();
   if (count - optind < 4 || strcmp(words[optind + 2], "--") != 0) misused();
   found.image = words[optind], found.data = words[optind + 1], found.command = words + optind + 3;
   return found;
 }
 
-/* Makes the image of a data file that may grow to `most` bytes and has `length` of them now, those at `bytes`; NULL: none. */
-static void format(const char *path, uint32_t most, uint64_t length, const void *bytes) {
-  unsigned char page[KEFS_PAGE] = {0};
-  memcpy(page, &length, sizeof length);
-  struct kefs_file files[2] = {{.length = most, .content = bytes}, {.length = KEFS_PAGE, .content = page}};
+/* Makes the image of a data file that may get `most` bytes long and has `length` of them now, those at `bytes`. */
+static void format(const char *path, uint32_t most, uint32_t length, const void *bytes) {
+  struct kefs_file files[2] = {{.length = length, .content = bytes}, {.length = sizeof most, .flags = KEFS_FILE_READ_ONLY, .content = &most}};
   int result = kefs_format(path, 0, files, 2);
   if (result != KEFS_OK) quit(path, kefs_strerror(result));
 }
 
-/* The data file's bytes, mapped to read, in memory of `room` bytes: more than there are of them are zeros. */
-static unsigned char *map_data(const char *path, uint64_t length, size_t room) {
+/* The data file's bytes, mapped to read; NULL where it has none. */
+static unsigned char *map_data(const char *path, size_t length) {
   int fd = open(path, O_RDONLY | O_CLOEXEC);
-  unsigned char *bytes = mmap(NULL, room, PROT_READ, MAP_PRIVATE | MAP_ANONYMOUS | MAP_NORESERVE, -1, 0);
+  unsigned char *bytes = length == 0 ? NULL : mmap(NULL, length, PROT_READ, MAP_PRIVATE, fd, 0);
   if (fd < 0 || bytes == MAP_FAILED) quit(path, strerror(errno));
-  if (length > 0 && mmap(bytes, (size_t)length, PROT_READ, MAP_PRIVATE | MAP_FIXED, fd, 0) == MAP_FAILED) quit(path, strerror(errno));
   close(fd);
   return bytes;
 }
@@ -112,31 +110,39 @@ static void put_aside(const char *data) {
   if (rename(data, before) != 0) quit(before, strerror(errno));
 }
 
-/* Makes the image of the bytes that the data file has, with zeros after them. Only then the file gets its other name. */
+/* Makes the image of the bytes that the data file has. Only then the file gets its other name. */
 static void import(const struct options *options, uint64_t length) {
   char before[PATH_MAX];
-  if (length > options->length) quit(options->data, "has more bytes than -m says");
+  if (length > options->most) quit(options->data, options->most < UINT32_MAX ? "has more bytes than -m says" : "has 4 GiB or more");
   name_before(options->data, before);
-  unsigned char *bytes = map_data(options->data, length, options->length);
-  format(options->image, options->length, length, bytes);
-  munmap(bytes, options->length);
+  unsigned char *bytes = map_data(options->data, (size_t)length);
+  format(options->image, options->most, (uint32_t)length, bytes);
+  if (bytes != NULL) munmap(bytes, (size_t)length);
   put_aside(options->data);
+}
+
+/* The data file as an image has it: its bytes, and how many they are, which images of older kefsruns have in the first 8 bytes of a page. */
+static int map_image(kefs_image *image, void **at, uint64_t *length) {
+  void *page = NULL;
+  size_t bytes = 0, room = 0;
+  int result = kefs_map(image, 0, NULL, at, &room);
+  if (result == KEFS_OK) result = kefs_map(image, 1, NULL, &page, &bytes);
+  if (result != KEFS_OK) return result;
+  *length = bytes >= sizeof *length ? *(uint64_t *)page : room;
+  return *length <= room ? KEFS_OK : KEFS_OTHER_FILES;
 }
 
 /* Whether the image holds just the bytes that the data file has, as where an import was killed before it gave the file its other name. */
 static int holds_bytes(const struct options *options, uint64_t length) {
   kefs_image *image;
-  void *at = NULL, *page = NULL;
-  size_t room = 0;
-  int result = kefs_open(&image, options->image, KEFS_RDONLY | KEFS_NOWAIT);
+  void *at = NULL;
+  uint64_t held = 0;
+  int result = kefs_open(&image, options->image, KEFS_RDONLY | KEFS_NOWAIT), is_same = 0;
   if (result != KEFS_OK) quit(options->image, kefs_errmsg(NULL));
-  result = kefs_map(image, 0, NULL, &at, &room);
-  if (result == KEFS_OK) result = kefs_map(image, 1, NULL, &page, NULL);
-  int is_same = 0;
-  if (result == KEFS_OK && page != NULL && *(uint64_t *)page == length && length <= room) {
-    unsigned char *bytes = map_data(options->data, length, (size_t)length);
-    is_same = memcmp(bytes, at, (size_t)length) == 0;
-    munmap(bytes, (size_t)length);
+  if (map_image(image, &at, &held) == KEFS_OK && held == length) {
+    unsigned char *bytes = map_data(options->data, (size_t)length);
+    is_same = length == 0 || memcmp(bytes, at, (size_t)length) == 0;
+    if (bytes != NULL) munmap(bytes, (size_t)length);
   }
   kefs_close(image);
   return is_same;
@@ -146,10 +152,10 @@ static int holds_bytes(const struct options *options, uint64_t length) {
 static void take_in(const struct options *options, uint64_t length) {
   int has_image = access(options->image, F_OK) == 0;
   if (!has_image && options->is_import) return import(options, length);
-  if (!has_image) quit(options->data, "has bytes of its own; under kefsrun the image has them and this file is empty. -m LENGTH -i takes them into a new image; else move it away first");
+  if (!has_image) quit(options->data, "has bytes of its own; the image should have them, and this file be empty. -i takes them in; else move it away first");
   if (!holds_bytes(options, length)) quit(options->data, "has bytes of its own, and the image, which is there already, holds others: move one of the two away");
   if (options->is_import) return put_aside(options->data);
-  quit(options->data, "has the bytes that the image has: -m LENGTH -i was cut short, and the same words again end it");
+  quit(options->data, "has the bytes that the image has: -i was cut short, and the same words again end it");
 }
 
 static int are_same(const char *one, const char *other) {
@@ -180,9 +186,8 @@ static void make_files(const struct options *options) {
   int is_to_take = is_there && options->is_import && access(options->image, F_OK) != 0;
   if (st.st_size != 0 || is_to_take) take_in(options, (uint64_t)st.st_size);
   if (access(options->image, F_OK) != 0) {
-    if (options->length == 0) quit(options->image, "there is no image; -m LENGTH makes one");
     if (options->is_import && !is_there) quit(options->data, strerror(ENOENT));
-    format(options->image, options->length, 0, NULL);
+    format(options->image, options->most, 0, NULL);
   }
   int fd = open(options->data, O_RDWR | O_CREAT | O_CLOEXEC, 0644);
   if (fd < 0) quit(options->data, strerror(errno));

@@ -1,5 +1,6 @@
 /* recorder.so, preloaded: records the writes and syncs that a program makes of one file, in their order, for powercuts.py.
-     RECORDED=/abs/path   the file, by the name that the program opens it by. Its log, which has the same path and .wal at its end, is recorded beside it
+     RECORDED=/abs/path   the file, by the name that the program opens it by
+     LOGGED=/abs/path     its log, which is recorded beside it; else that has the same path and .wal at its end
      TRACE=/abs/path      the trace, which is made anew
    What a program stores to a shared mapping is found when it makes a call of the file, a sector at a time: what the kernel writes
    back by itself between two calls is not seen. For programs of one thread. */
@@ -26,6 +27,7 @@ enum file { DATA = 0, LOG = 1 };
 struct event { uint16_t kind, file; uint32_t call; uint64_t at, length; };
 
 static const char *recorded;
+static char logged[4096];
 static int trace = -1;
 static struct { int is_recorded, is_dsync; enum file file; } opened[FDS];
 static int readable[2] = {-1, -1};       /* by which descriptor the bytes of a file are read */
@@ -57,6 +59,8 @@ __attribute__((constructor)) static void begin(void) {
   shadow = NEXT(mmap)(NULL, MAPPED_MOST, PROT_READ | PROT_WRITE, MAP_PRIVATE | MAP_ANONYMOUS | MAP_NORESERVE, -1, 0);
   if (trace < 0 || shadow == MAP_FAILED) quit("no trace");
   recorded = path;
+  if (getenv("LOGGED") != NULL) snprintf(logged, sizeof logged, "%s", getenv("LOGGED"));
+  else snprintf(logged, sizeof logged, "%s.wal", path);
   read_file();
 }
 
@@ -123,9 +127,8 @@ static void wrote(int fd, off_t at, ssize_t length) {
 
 /* 0 for the data, 1 for the log, -1 for any other file. */
 static int file_of(const char *path) {
-  size_t length = recorded == NULL ? 0 : strlen(recorded);
-  if (length == 0 || strncmp(path, recorded, length) != 0) return -1;
-  return path[length] == 0 ? DATA : strcmp(path + length, ".wal") == 0 ? LOG : -1;
+  if (recorded == NULL) return -1;
+  return strcmp(path, recorded) == 0 ? DATA : strcmp(path, logged) == 0 ? LOG : -1;
 }
 
 static int after_open(int fd, const char *path, int flags) {

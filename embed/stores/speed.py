@@ -10,13 +10,14 @@ import sys
 import tempfile
 import time
 
-ROOM = "2M"
 # The mode of workload.c, and kefsrun's option over kefs.
 STORES = {
     "LMDB": (("lmdb", None), ("lmdb-writemap", None), ("lmdb-writemap", "part")),
     "Kyoto Cabinet": (("kyoto", None), ("kyoto-transactions", None), ("kyoto", "fsync")),
     "Tokyo Cabinet": (("tokyo", None), ("tokyo-transactions", None), ("tokyo", "fsync")),
     "gdbm": (("gdbm", None), ("gdbm", "every")),
+    "SQLite": (("sqlite", None), ("sqlite-wal", None), ("sqlite", "every"), ("sqlite-wal", "every")),
+    "a file written anew": (("rewritten", None), ("rewritten", "every")),
 }
 
 
@@ -24,7 +25,7 @@ def command(out, folder, mode, commit_at, transactions):
     """Runs so many transactions, on the same data file each time."""
     name = os.path.join(folder, f"{mode}.{commit_at or 'alone'}")
     words = [os.path.join(out, "workload"), mode, f"{name}.db", "run", "1", str(transactions)]
-    over = [os.path.join(out, "kefsrun"), "-m", ROOM, "-c", commit_at, f"{name}.img", f"{name}.db", "--"] if commit_at else []
+    over = [os.path.join(out, "kefsrun"), "-c", commit_at, f"{name}.img", f"{name}.db", "--"] if commit_at else []
     return over + words
 
 

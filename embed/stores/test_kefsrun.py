@@ -1,5 +1,6 @@
 """Tests of kefsrun and kefsrun.so, as out/ has them: python3 -m unittest test_kefsrun. It needs cc."""
 import errno
+import itertools
 import os
 import re
 import shutil
@@ -61,7 +62,6 @@ class Kefsrun(Runs):
             self.says(self.kefsrun("true", options=("-m", length)), 125, "no length")
 
     def test_refusals(self):
-        self.says(self.kefsrun("true", options=()), 125, "there is no image")
         self.says(self.kefsrun("no-such-command"), 127, "No such file")
         self.says(self.kefsrun(self.folder), 126, "Permission denied")
         with open(self.data, "w") as file:
@@ -110,11 +110,11 @@ class Kefsrun(Runs):
             os.unlink(self.image)
 
     def test_import(self):
-        for text in ("", "x", "a page and more, " * 600):
-            with self.subTest(length=len(text)):
+        for options, text in itertools.product((("-m", "64K", "-i"), ("-i",)), ("", "x", "a page and more, " * 600)):
+            with self.subTest(options=options, length=len(text)):
                 with open(self.data, "w") as file:
                     file.write(text)
-                done = self.kefsrun("cat", self.data, options=("-m", "64K", "-i"))
+                done = self.kefsrun("cat", self.data, options=options)
                 self.assertEqual((done.returncode, done.stdout, done.stderr), (0, text, ""))
                 with open(f"{self.data}.before") as file:
                     self.assertEqual(file.read(), text)
@@ -123,8 +123,8 @@ class Kefsrun(Runs):
                     os.unlink(name)
 
     def test_no_import(self):
-        self.says(self.kefsrun("true", options=("-i",)), 2, "usage: kefsrun")
-        self.says(self.kefsrun("true", options=("-m", "1K", "-i")), 125, "No such file")
+        for options in (("-i",), ("-m", "1K", "-i")):
+            self.says(self.kefsrun("true", options=options), 125, "No such file")
         with open(self.data, "w") as file:
             file.write("x" * 1025)
         self.says(self.kefsrun("true", options=("-m", "1K", "-i")), 125, "more bytes than -m says")
@@ -136,7 +136,7 @@ class Kefsrun(Runs):
     def test_the_advice_leads_out(self):
         with open(self.data, "w") as file:
             file.write("Ada 1815")
-        self.says(self.kefsrun("true"), 125, "-m LENGTH -i takes them into a new image")
+        self.says(self.kefsrun("true"), 125, "-i takes them in")
         self.assertFalse(os.path.exists(self.image))
         done = self.kefsrun("cat", self.data, options=("-m", "64K", "-i"))
         self.assertEqual((done.returncode, done.stdout, done.stderr), (0, "Ada 1815", ""))
@@ -283,11 +283,11 @@ print(m[0])
             "import ctypes\n"
             "mmap = ctypes.CDLL(None, use_errno=True).mmap\n"
             "mmap.restype, mmap.argtypes = ctypes.c_void_p, [ctypes.c_void_p, ctypes.c_size_t, ctypes.c_int, ctypes.c_int, ctypes.c_int, ctypes.c_long]\n"
-            "print([(mmap(None, 1 << 16, 3, 1, fd, at) == 2**64 - 1 and ctypes.get_errno()) for at in (0, 4096)])\n"
+            "print([(mmap(None, size, 3, 1, fd, at) == 2**64 - 1 and ctypes.get_errno()) for size, at in ((1 << 16, 4096), (1 << 40, 0), (1 << 42, 0))])\n"
         )
         done = self.python(text)
-        self.assertEqual(done.stdout, f"[False, {errno.ENOMEM}]\n")
-        self.says(done, 0, "a mapping beyond the length")
+        self.assertEqual(done.stdout, f"[False, False, {errno.ENOMEM}]\n")
+        self.says(done, 0, "a mapping of over a TiB")
 
     @unittest.skipUnless(shutil.which("kchashmgr"), "Kyoto Cabinet's tools are missing")
     def test_the_lines_of_the_page(self):
@@ -394,7 +394,7 @@ class Cases(Runs):
     def test_facts_and_room(self):
         self.case("facts", "5 5 8\n")
         os.unlink(self.image)
-        self.case("allocated", "5000 1 1 1\n", "x".ljust(5000, "\0"), told="more bytes than kefsrun -m gave")
+        self.case("allocated", "5000 1 1 1\n", "x".ljust(5000, "\0"), told="it may not get so long")
 
     def test_what_would_reach_the_empty_file(self):
         self.case("asynchronous", "1\n", told="asynchronous")

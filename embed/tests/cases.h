@@ -3,7 +3,9 @@
 #ifndef KEFS_CASES_H
 #define KEFS_CASES_H
 #include "tests.h"
+#include <sched.h>
 #include <signal.h>
+#include <sys/mount.h>
 #include <sys/wait.h>
 #include <time.h>
 
@@ -74,6 +76,22 @@ static inline double seconds_of(clockid_t clock) {
 }
 
 static inline double now(void) { return seconds_of(CLOCK_MONOTONIC); }
+
+/* A memory file system of so many bytes, which nobody else sees. */
+static inline void mount_memory(const char *size) {
+  char words[64];
+  snprintf(words, sizeof words, "size=%s", size);
+  mkdir("memory", 0700);
+  if (unshare(CLONE_NEWNS) != 0 || mount(NULL, "/", NULL, MS_REC | MS_PRIVATE, NULL) != 0) _exit(SKIPPED);
+  if (mount("none", "memory", "tmpfs", 0, words) != 0) _exit(SKIPPED);
+}
+
+static inline void fill_memory(void) {
+  static char page[PAGE] = {1};
+  int fd = open("memory/filler", O_WRONLY | O_CREAT, 0600);
+  while (write(fd, page, PAGE) > 0) continue;
+  close(fd);
+}
 
 /* The exit status of a child, or -1 where a signal ended it. */
 static inline int status_of(pid_t child) {

@@ -676,7 +676,7 @@ static void bad_files_are_not_formatted(void) {
   struct kefs_file files[65] = {{1, 0, NULL}};
   unlink(path);
   RETURNS(EINVAL, kefs_format(path, 0600, files, 65));
-  files[0].flags = 4;
+  files[0].flags = 8;
   RETURNS(EINVAL, kefs_format(path, 0600, files, 1));
   CHECK(access(path, F_OK) != 0);
   files[0].flags = 0;

@@ -4,18 +4,26 @@
 #define PROGRAM "costs"
 #include "cases.h"
 #include <sys/file.h>
+#include <sys/mman.h>
 #include <sys/resource.h>
 #include <sys/syscall.h>
 #include <sys/uio.h>
 
 static double processor_seconds(void) { return seconds_of(CLOCK_PROCESS_CPUTIME_ID); }
 
+/* Pages of addresses that the process has, and in *here how many of these it has in memory. */
+static size_t addresses_now(size_t *here) {
+  size_t all;
+  FILE *facts = fopen("/proc/self/statm", "r");
+  CHECK(facts != NULL && fscanf(facts, "%zu %zu", &all, here) == 2);
+  fclose(facts);
+  return all;
+}
+
 /* MiB that the process has in memory. */
 static size_t memory_now(void) {
-  size_t all, here;
-  FILE *facts = fopen("/proc/self/statm", "r");
-  CHECK(facts != NULL && fscanf(facts, "%zu %zu", &all, &here) == 2);
-  fclose(facts);
+  size_t here;
+  addresses_now(&here);
   return here * PAGE >> 20;
 }
 
@@ -126,6 +134,54 @@ static void a_full_pool_is_emptied_at_once(void) {
   DONE(kefs_close(image));
 }
 
+/* Appends */
+
+static long maps; /* calls that map memory, elsewhere than before, or no longer */
+
+void *mmap(void *at, size_t length, int access, int kind, int fd, off_t from) {
+  maps++;
+  return (void *)syscall(SYS_mmap, at, length, access, kind, fd, from);
+}
+
+void *mremap(void *at, size_t length, size_t longer, int kind, ...) {
+  maps++;
+  return (void *)syscall(SYS_mremap, at, length, longer, kind, NULL);
+}
+
+int munmap(void *at, size_t length) {
+  maps++;
+  return (int)syscall(SYS_munmap, at, length);
+}
+
+/* How many more addresses, in pages, the process has after a commit of a file with so many pages more. */
+static long append(size_t pages) {
+  size_t length, here;
+  DONE(kefs_length(image, 0, &length));
+  DONE(kefs_resize(image, 0, length + pages * PAGE));
+  store(a + length, 1);
+  size_t before = addresses_now(&here);
+  maps = 0;
+  DONE(kefs_commit(image, NULL, 0, NULL));
+  return (long)addresses_now(&here) - (long)before;
+}
+
+/* The room that the first one takes is there for those that follow, but where it is large. */
+static void an_append_maps_no_memory(void) {
+  void *at;
+  if (image_layout() != 4) _exit(SKIPPED);
+  make_file(PATH, PAGES, 0);
+  DONE(kefs_open(&image, PATH, 0));
+  DONE(kefs_map_growing(image, 0, NULL, 20000 * PAGE, &at, NULL));
+  a = at;
+  CHECK(append(1) > 0 && maps > 0);
+  for (int k = 0; k < 100; k++) CHECK(append(1) == 0 && maps == 0);
+  CHECK(append(1000) << 12 < 16 << 20 && maps > 0);
+  for (size_t pages = 1; pages < 1024; pages += 100) CHECK(append(pages) == 0 && maps == 0);
+  CHECK(append(5000) < 0 && maps > 0);
+  CHECK(append(1) > 0 && append(1) == 0 && maps == 0);
+  DONE(kefs_close(image));
+}
+
 /* Waits */
 
 static int has_coarse_times; /* as where the times of a file system are whole seconds */
@@ -200,7 +256,7 @@ static void a_reading_waits_asleep_until_times_tell_changes(void) {
 }
 
 static const struct test with_each_tracker[] = {TEST(a_map_of_an_empty_file_is_cheap)};
-static const struct test once[] = {TEST(a_commit_to_a_pool_writes_no_home), TEST(a_full_pool_is_emptied_at_once), TEST(a_backup_of_empty_files_is_cheap), TEST(a_wait_takes_hardly_any_time_of_a_processor), TEST(a_wait_without_a_limit_is_one_sleep),
+static const struct test once[] = {TEST(a_commit_to_a_pool_writes_no_home), TEST(a_full_pool_is_emptied_at_once), TEST(an_append_maps_no_memory), TEST(a_backup_of_empty_files_is_cheap), TEST(a_wait_takes_hardly_any_time_of_a_processor), TEST(a_wait_without_a_limit_is_one_sleep),
   TEST(a_reading_waits_asleep_until_times_tell_changes)};
 
 int main(int argc, char **argv) { return argc < 2 ? 2 : run_cases(argv, once, COUNT_OF(once), with_each_tracker, COUNT_OF(with_each_tracker)); }

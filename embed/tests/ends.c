@@ -5,10 +5,8 @@
 #include "cases.h"
 #include <errno.h>
 #include <pthread.h>
-#include <sched.h>
 #include <setjmp.h>
 #include <sys/mman.h>
-#include <sys/mount.h>
 #include <sys/resource.h>
 #include <sys/syscall.h>
 
@@ -28,15 +26,6 @@ static void a_snapshot_of_a_file_without_a_name_is_refused(void) {
 
 enum { BIG = 64 << 20, STORED = 900 }; /* bytes of a sparse file, and the page of it that is stored to */
 
-/* A file system of so many bytes, which nobody else sees. */
-static void mount_memory(const char *size) {
-  char words[64];
-  snprintf(words, sizeof words, "size=%s", size);
-  mkdir("memory", 0700);
-  if (unshare(CLONE_NEWNS) != 0 || mount(NULL, "/", NULL, MS_REC | MS_PRIVATE, NULL) != 0) _exit(SKIPPED);
-  if (mount("none", "memory", "tmpfs", 0, words) != 0) _exit(SKIPPED);
-}
-
 /* A sparse file of which a page was committed, whose home has room then or, where it is still in the journal, has none. */
 static void make_sparse(const char *path, int is_home) {
   struct kefs_file file = {BIG, KEFS_FILE_SPARSE, NULL};
@@ -52,13 +41,6 @@ static void make_sparse(const char *path, int is_home) {
     DONE(kefs_commit(image, NULL, 0, NULL));
   }
   DONE(kefs_close(image));
-}
-
-static void fill_memory(void) {
-  static char page[PAGE] = {1};
-  int fd = open("memory/filler", O_WRONLY | O_CREAT, 0600);
-  while (write(fd, page, PAGE) > 0) continue;
-  close(fd);
 }
 
 static blkcnt_t blocks_of(const char *path) {

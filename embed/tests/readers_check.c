@@ -303,6 +303,7 @@ static int is_copied(int from, int to, size_t length) {
 
 static void a_file_of_another_length(void) {
   struct stat facts;
+  size_t length;
   begin(PAGES);
   CHECK(stat(PATH, &facts) == 0 && truncate(PATH, facts.st_size + 5 * PAGE) == 0);
   commit(1, 1);
@@ -317,8 +318,12 @@ static void a_file_of_another_length(void) {
   make_files("new.img", (struct kefs_file[]){{PAGE, 0, NULL}, {(PAGES - 1) * PAGE, 0, NULL}}, 2);
   int from = open("new.img", O_RDONLY), to = open(PATH, O_WRONLY); /* made anew in place */
   CHECK(stat("new.img", &facts) == 0 && is_copied(from, to, (size_t)facts.st_size));
-  RETURNS(KEFS_NOT_IMAGE, kefs_refresh(reader, NULL));
-  CHECK(strstr(kefs_errmsg(reader), "directory") != NULL);
+  if (image_layout() == 4) /* is as after a commit that cut the file */
+    CHECK(refreshed() == 1 && kefs_length(reader, 0, &length) == KEFS_OK && length == PAGE);
+  else {
+    RETURNS(KEFS_NOT_IMAGE, kefs_refresh(reader, NULL));
+    CHECK(strstr(kefs_errmsg(reader), "directory") != NULL);
+  }
   DONE(kefs_close(reader));
 }
 

@@ -108,7 +108,7 @@ int posix_fadvise(int fd, off_t at, off_t length, int advice) {
   return (int)syscall(SYS_fadvise64, fd, at, length, advice);
 }
 
-static double slept; /* seconds that waits were to sleep */
+static _Thread_local double slept; /* seconds that waits of this thread were to sleep */
 
 int ppoll(struct pollfd *of, nfds_t count, const struct timespec *pause, const sigset_t *blocked) {
   struct timespec left = *pause;

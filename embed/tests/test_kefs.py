@@ -131,6 +131,100 @@ class Images(unittest.TestCase):
             image.rollback(view[8192:])
             self.assertEqual((view[8192], image.count_dirty()), (0, 0))
 
+    def test_a_file_grows(self):
+        with self.opened([10, 0]) as image:
+            view = image.map(0, most=1 << 20)
+            view[9] = 1
+            image.resize(0, 5000)
+            self.assertRaises(ValueError, lambda: view[0])
+            view = image.map(0)
+            view[4999] = 2
+            self.assertEqual((len(view), view[9], image.length(0), image.count_dirty()), (5000, 1, 5000, 2))
+            part = view[4096:]
+            self.assertRaises(BufferError, image.resize, 0, 10)
+            self.assertRaises(BufferError, image.rollback)
+            self.assertEqual((image.commit(), part[903]), (2, 2))
+            del part
+            image.resize(0, 1)
+            with self.assertRaises(OSError) as caught:
+                image.resize(0, (1 << 20) + 1)
+            self.assertEqual((caught.exception.errno, len(image.map(0))), (errno.ENOMEM, 1))
+            image.rollback()
+            self.assertEqual((len(image.map(0)), image.map(0)[4999]), (5000, 2))
+            empty = image.map(1, most=8192)
+            self.assertEqual((len(empty), bytes(empty)), (0, b""))
+            image.resize(1, 8192)
+            image.map(1)[8191] = 3
+            image.commit()
+            with self.assertRaises(OSError) as caught:
+                image.map(1, most=1 << 20)
+            self.assertEqual(caught.exception.errno, errno.EEXIST)
+        with kefs.open(self.path, create=[kefs.File(0, grows=True), kefs.File(5, grows=True)]) as image:
+            self.assertEqual((image.length(0), image.map(1)[8191]), (5000, 3))
+            image.resize(1, 0)
+            self.assertEqual((bytes(image.map(1)), image.commit(), image.length(1)), (b"", 0, 0))
+
+    def test_a_transaction_that_resizes_is_rolled_back(self):
+        with self.opened([4096]) as image:
+            image.map(0, most=1 << 20)
+            with self.assertRaises(KeyError):
+                with image.transaction():
+                    image.resize(0, 8192)
+                    image.map(0)[8191] = image.map(0)[0] = 1
+                    raise KeyError
+            self.assertEqual((bytes(image.map(0)), image.count_dirty()), (bytes(4096), 0))
+
+    def test_files_come_and_go(self):
+        with self.opened([4096]) as image:
+            image.add_file(5, 4096)
+            image.map(5)[0] = 1
+            image.rollback()
+            self.assertRaises(kefs.NoFile, image.map, 5)
+            image.add_file(5, 4096)
+            image.map(5)[0] = 2
+            with self.assertRaises(OSError) as caught:
+                image.remove_file(5)
+            self.assertEqual((caught.exception.errno, image.commit()), (errno.EBUSY, 1))
+            image.unmap(5)
+            with self.assertRaises(OSError) as caught:
+                image.lookup("a")
+            self.assertEqual(caught.exception.errno, errno.EOPNOTSUPP)
+        with kefs.open(self.path) as image:
+            self.assertEqual((image.map(5)[0], image.stat()["files"]), (2, 2))
+            image.unmap(5)
+            image.remove_file(5)
+            image.commit()
+            self.assertRaises(kefs.NoFile, image.length, 5)
+            self.assertRaises(FileExistsError, image.add_file, 0)
+
+    def test_names(self):
+        with kefs.open(self.path, names=True) as image:
+            with image.transaction():
+                self.assertEqual((image.create_file("a", 4096), image.create_file("\u00e4\udcff", 1), image.names()), (1, 2, {"a": 1, "\u00e4\udcff": 2}))
+                image.map(1)[0] = 1
+            with self.assertRaises(KeyError):
+                with image.transaction():
+                    image.rename("\u00e4\udcff", "b")
+                    image.map(image.create_file("c", 8192))[0] = 1
+                    raise KeyError
+            self.assertEqual(image.names(), {"a": 1, "\u00e4\udcff": 2})
+            self.assertRaises(kefs.NoFile, image.lookup, "c")
+            self.assertRaises(ValueError, image.lookup, "a\0b")
+            self.assertRaises(FileExistsError, image.create_file, "a")
+            with self.assertRaises(OSError) as caught:
+                image.create_file("n" * 256)
+            self.assertEqual(caught.exception.errno, errno.ENAMETOOLONG)
+            image.unlink(b"\xc3\xa4\xff")
+            image.rename("a", "b")
+            image.commit()
+        with kefs.open(self.path, names=True) as image:
+            self.assertEqual((image.names(), image.map(image.lookup("b"))[0]), ({"b": 1}, 1))
+        with kefs.open(self.path, kefs.RDONLY) as image:
+            self.assertRaises(kefs.ReadOnly, image.unlink, "b")
+            self.assertEqual((image.names(), bytes(image.map(0)[:13])), ({"b": 1}, b"kefs names 1\0"))
+        kefs.format(self.path + "2", [1])
+        self.assertRaises(kefs.OtherFiles, kefs.open, self.path + "2", names=True)
+
     def test_a_tidy(self):
         with self.opened() as image:
             image.map(0)[0] = 1
@@ -221,6 +315,30 @@ class Images(unittest.TestCase):
             reader.close()
             self.assertRaises(ValueError, reader.refresh)
             self.assertRaises(ValueError, lambda: seen[0])
+
+    def test_a_snapshot_follows_lengths(self):
+        with kefs.open(self.path, names=True) as image, kefs.open(self.path, kefs.SNAPSHOT) as reader:
+            for name in ("a", "b", "c"):
+                image.map(image.create_file(name, 8192), most=1 << 20)[:] = b"x" * 8192
+            image.commit()
+            self.assertEqual((reader.refresh(), reader.names()), (True, {"a": 1, "b": 2, "c": 3}))
+            first, second, third = reader.map(1), reader.map(2), reader.map(3, most=1 << 20)
+            part = second[4000:]
+            image.resize(1, 4096), image.resize(2, 100), image.resize(3, 12288)
+            image.map(3)[12287] = 1
+            image.commit()
+            self.assertEqual((bytes(part), reader.refresh()), (b"x" * 4192, True))
+            self.assertRaises(ValueError, lambda: first[0])
+            self.assertRaises(ValueError, lambda: third[0])
+            self.assertEqual((bytes(part), len(reader.map(1)), bytes(second[:101])), (bytes(4192), 4096, b"x" * 100 + b"\0"))
+            self.assertEqual((len(reader.map(3)), reader.map(3)[12287]), (12288, 1))
+            image.unmap(1)
+            image.unlink("a")
+            image.commit()
+            del part
+            reader.refresh()
+            self.assertEqual((len(reader.map(2)), reader.names()), (100, {"b": 2, "c": 3}))
+            self.assertRaises(kefs.NoFile, reader.map, 1)
 
     def test_a_snapshot_of_a_replaced_image(self):
         self.opened().close()
@@ -509,8 +627,8 @@ class Checks(unittest.TestCase):
         later = ["file 0: 8192 bytes, 2 pages from home 4 on", "file 1: 5000 bytes, 2 pages from home 6 on, read-only", "file 2: 0 bytes, 0 pages"]
         journals = ["journal: open, 2 pages"] + [f"pool: map {it} of two, 2 pages in 4032 slots" for it in (0, 1)]
         for image, layout, journal in zip(images, LIVE_LAYOUTS, journals):
-            homes, told = (8, later) if layout == 4 else (4, files)
-            self.assertEqual(self.told_of(image), (0, [f"layout: {layout}, {homes} pages", *told, journal, "would open: yes"]))
+            homes, told = ("8 pages, 0 of them free", later) if layout == 4 else ("4 pages", files)
+            self.assertEqual(self.told_of(image), (0, [f"layout: {layout}, {homes}", *told, journal, "would open: yes"]))
             self.assertEqual(self.told("dump", self.path, "0"), (0, bytes(4096) + b"j" * 4096, ""))
             self.assertEqual(self.told("dump", self.path, "1"), (0, bytes(4096) + b"k" * 904, ""))
             self.assertEqual(self.told("dump", self.path, "3")[0], 1)
@@ -535,7 +653,8 @@ class Checks(unittest.TestCase):
                 self.assertEqual((status, error, os.path.exists(new)), (1, f"kefscheck: {self.path}: it has layout 4 already\n", False))
                 continue
             self.assertEqual((status, lines, error, os.stat(new).st_mode & 0o777), (0, b"", "", 0o640))
-            self.assertEqual(self.told(new)[1].decode().splitlines()[1:], ["layout: 4, 8 pages", *later, "pool: map 0 of two, 0 pages in 4032 slots", "would open: yes"])
+            told = ["layout: 4, 8 pages, 0 of them free", *later, "pool: map 0 of two, 0 pages in 4032 slots", "would open: yes"]
+            self.assertEqual(self.told(new)[1].decode().splitlines()[1:], told)
             self.assertEqual(self.told("dump", new, "0"), (0, bytes(4096) + b"j" * 4096, ""))
             self.assertEqual(self.told("dump", new, "1"), (0, bytes(4096) + b"k" * 904, ""))
             self.assertEqual(self.told("upgrade", self.path, new)[0], 1)
@@ -595,7 +714,7 @@ class Checks(unittest.TestCase):
         self.assertEqual(self.told_of(whole[: directory + 512])[1], [f"would open: no, KEFS_NOT_IMAGE: it has {pool_homes(whole) + 1} sectors, under {pool_homes(whole) + 32}"])
 
     def test_files_of_many_extents(self):
-        pieces, homes = [(20, 1), (9, 0), (4, 3), (30, 2)], [20, 4, 5, 6, 30, 31]
+        pieces, homes = [(20, 1), (9, 0), (4, 3), (1 << 31, 0), (30, 2)], [20, 4, 5, 6, 30, 31]
         image = bytearray(new_pool_image([20 * 4096, 30 * 4096], blocks=1))
         entry = b"".join(it.to_bytes(4, "little") for it in (1, len(pieces), 6 * 4096 - 10, 0, *sum(pieces, ())))
         start = 512 * pool_homes(image)
@@ -604,7 +723,9 @@ class Checks(unittest.TestCase):
             image[start + 4096 * home:start + 4096 * (home + 1)] = bytes([65 + number]) * 4096
         image = with_pool(bytes(image), {5: b"x" * 4096, 31: b"y" * 4096}, opened=False)
         wanted = b"A" * 4096 + b"B" * 4096 + b"x" * 4096 + b"D" * 4096 + b"E" * 4096 + b"y" * 4086
-        self.assertEqual(self.told_of(image)[1][1], "file 0: 24566 bytes, 6 pages from home 20 on, from home 9 on, from home 4 on, from home 30 on")
+        extents = ", ".join(f"from home {it} on" for it, _ in pieces)
+        told = ["layout: 4, 54 pages, 44 of them free", f"file 0: 24566 bytes, 6 pages {extents}"]
+        self.assertEqual((self.told_of(image)[0], self.told_of(image)[1][:2]), (0, told))
         self.assertEqual(self.told("dump", self.path, "0"), (0, wanted, ""))
         for flags in (kefs.RDONLY, kefs.LAZY, kefs.SNAPSHOT, kefs.TRACK_SIGNAL):
             with kefs.open(self.path, flags) as opened:

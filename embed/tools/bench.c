@@ -10,6 +10,10 @@
             SQLite's log has its length before the first one, and is written over from its beginning, as it is in a program that has run for a while: a log that
             was cut would grow in each commit
 
+   bench grow FOLDER PAGES COMMITS [SYNC]: times commits that append so many pages, 1,024 at most, to a file of 1,024 pages and what was appended before,
+   in turn as above, and prints such lines: kefs is kefs_resize, the stores and kefs_commit; wal and lmdb insert as many rows of a page; plain writes the
+   pages to a file by one call and syncs it, which is not atomic. SQLite's log is as above, and it checkpoints as it does by default.
+
    bench worn FOLDER MIB COMMITS [SYNC]: times commits of one random page of one file of 4 MiB, and of one of MIB MiB, in turn, with each tracker, after
    a store to each 2 MiB of both; with scan, of all that is mapped and (ranges) of a range of that page.
 
@@ -31,8 +35,8 @@
 #include <time.h>
 
 enum { PAGES = 1024, PAGE = KEFS_PAGE, SECTOR = 512, VALUE = 4000, WARM_UP = 20 };
-enum mode { KEFS, CALLS, STORED, MSYNC, WAL, DELETE, LMDB, MODES };
-static const char *const NAMES[MODES] = {"kefs", "calls", "stored", "msync", "wal", "delete", "lmdb"};
+enum mode { KEFS, CALLS, STORED, MSYNC, WAL, DELETE, LMDB, PLAIN, MODES };
+static const char *const NAMES[MODES] = {"kefs", "calls", "stored", "msync", "wal", "delete", "lmdb", "plain"};
 static unsigned char value[PAGE], ready[PAGES * PAGE + PAGE]; /* a page to be stored, and the bytes of the bare calls */
 static int chosen[PAGES], count, is_hot;             /* the pages of a commit, in their order */
 
@@ -185,7 +189,7 @@ static int (*open_base)(const char *, void **), (*execute)(void *, const char *,
 static int (*prepare)(void *, const char *, int, void **, void *), (*bind_blob)(void *, int, const void *, int, void *);
 static int (*bind_int)(void *, int, int), (*step)(void *), (*reset)(void *), (*finalize)(void *), (*close_base)(void *);
 static int (*on_busy)(void *, int (*)(void *, int), void *);
-static struct base { void *base, *update, *begin, *end; } bases[MODES];
+static struct base { void *base, *update, *insert, *begin, *end; } bases[MODES];
 
 static int load_sqlite(void) {
   void *library = dlopen("libsqlite3.so.0", RTLD_NOW);
@@ -214,7 +218,7 @@ static void open_sqlite(enum mode mode, const char *path, const char *journal) {
   execute(it->base, "create table t(id integer primary key, b blob)", 0, 0, 0);
   execute(it->base, "with recursive c(i) as (select 0 union all select i+1 from c where i<1023) insert into t select i, zeroblob(4000) from c", 0, 0, 0);
   execute(it->base, "pragma wal_checkpoint(RESTART)", 0, 0, 0);
-  prepare(it->base, "update t set b=? where id=?", -1, &it->update, 0);
+  prepare(it->base, "update t set b=? where id=?", -1, &it->update, 0), prepare(it->base, "insert into t(b, id) values(?, ?)", -1, &it->insert, 0);
   prepare(it->base, "begin immediate", -1, &it->begin, 0), prepare(it->base, "commit", -1, &it->end, 0);
 }
 
@@ -223,17 +227,19 @@ static void run_statement(void *statement) {
   reset(statement);
 }
 
-static void commit_sqlite(enum mode mode) {
-  const struct base *it = &bases[mode];
+static void commit_rows(const struct base *it, void *statement, const int *rows) {
   run_statement(it->begin);
-  for (int i = 0; i < count; i++) bind_blob(it->update, 1, value, VALUE, 0), bind_int(it->update, 2, chosen[i]), run_statement(it->update);
+  for (int i = 0; i < count; i++) bind_blob(statement, 1, value, VALUE, 0), bind_int(statement, 2, rows[i]), run_statement(statement);
   run_statement(it->end);
 }
+
+static void commit_sqlite(enum mode mode) { commit_rows(&bases[mode], bases[mode].update, chosen); }
 
 struct bytes { size_t length; void *at; };
 static int (*begin_map)(void *, void *, unsigned, void **), (*put)(void *, unsigned, struct bytes *, struct bytes *, unsigned), (*end_map)(void *);
 static void *map;
-static unsigned table;
+static size_t map_bytes = 64u << 20;
+static unsigned table, put_flags;
 
 static void put_rows(const int *rows, int number) {
   void *transaction;
@@ -241,7 +247,7 @@ static void put_rows(const int *rows, int number) {
   for (int i = 0; i < number; i++) {
     unsigned key = (unsigned)rows[i];
     struct bytes name = {sizeof key, &key}, row = {VALUE, value};
-    if (put(transaction, table, &name, &row, 0) != 0) die("mdb_put");
+    if (put(transaction, table, &name, &row, put_flags) != 0) die("mdb_put");
   }
   if (end_map(transaction) != 0) die("mdb_txn_commit");
 }
@@ -257,7 +263,7 @@ static int open_lmdb(const char *path) {
   *(void **)&open_map = called(library, "mdb_env_open"), *(void **)&open_table = called(library, "mdb_dbi_open");
   *(void **)&begin_map = called(library, "mdb_txn_begin"), *(void **)&put = called(library, "mdb_put"), *(void **)&end_map = called(library, "mdb_txn_commit");
   unlink_all(path);
-  if (create(&map) != 0 || bound(map, 64u << 20) != 0 || open_map(map, path, 0x4000, 0600) != 0) die(path);
+  if (create(&map) != 0 || bound(map, map_bytes) != 0 || open_map(map, path, 0x4000, 0600) != 0) die(path);
   if (begin_map(map, NULL, 0, &transaction) != 0 || open_table(transaction, NULL, 0x08, &table) != 0 || end_map(transaction) != 0) die(path);
   for (int i = 0; i < PAGES; i++) all[i] = i;
   put_rows(all, PAGES);
@@ -330,10 +336,10 @@ static int open_all(int *modes) {
   return number;
 }
 
-static int time_commits(int commits) {
+/* Times commits of these modes in turn. */
+static int time_turns(int *turn, int number, int commits, double (*time_of)(enum mode)) {
   double *taken[MODES];
   size_t made[MODES] = {0};
-  int turn[MODES], number = open_all(turn);
   for (int m = 0; m < MODES; m++) taken[m] = calloc((size_t)commits, sizeof(double));
   srandom(42);
   for (int r = -WARM_UP; r < commits; r++) {
@@ -341,13 +347,70 @@ static int time_commits(int commits) {
     choose_pages((unsigned long)(r + WARM_UP));
     for (int m = 0; m < number; m++) {
       size_t before = syncs;
-      double time = timed((enum mode)turn[m]);
+      double time = time_of((enum mode)turn[m]);
       if (r >= 0) taken[turn[m]][r] = time, made[turn[m]] += syncs - before;
     }
   }
   qsort(turn, (size_t)number, sizeof *turn, in_order);
   for (int m = 0; m < number; m++) say_times(NAMES[turn[m]], taken[turn[m]], commits, (double)made[turn[m]] / commits);
   return 0;
+}
+
+static int time_commits(int commits) {
+  int turn[MODES], number = open_all(turn);
+  return time_turns(turn, number, commits, timed);
+}
+
+/* Growing */
+
+static int grown[MODES]; /* how many pages or rows there are */
+
+static void append_to_map(int first) {
+  must(kefs_resize(images[KEFS], 0, (size_t)(first + count) * PAGE), "kefs_resize");
+  for (int i = first; i < first + count; i++) memcpy(mapped[KEFS] + (size_t)i * PAGE, value, PAGE);
+  commit_kefs(KEFS);
+}
+
+static void append_to_plain(int first) {
+  for (int i = 0; i < count; i++) memcpy(ready + i * PAGE, value, PAGE);
+  if (pwrite(plain, ready, (size_t)count * PAGE, (off_t)first * PAGE) != (ssize_t)count * PAGE || fdatasync(plain) != 0) die("bench.plain");
+}
+
+static double timed_growth(enum mode mode) {
+  int rows[PAGES], first = grown[mode];
+  for (int i = 0; i < count; i++) rows[i] = first + i;
+  grown[mode] += count;
+  double start = now();
+  switch (mode) {
+    case KEFS: append_to_map(first); break;
+    case PLAIN: append_to_plain(first); break;
+    case LMDB: put_rows(rows, count); break;
+    default: commit_rows(&bases[mode], bases[mode].insert, rows);
+  }
+  return now() - start;
+}
+
+static void open_growing(size_t most) {
+  void *at;
+  open_kefs(KEFS, "bench.img", PAGES, 0), settle_kefs(KEFS);
+  must(kefs_unmap(images[KEFS], 0), "kefs_unmap");
+  must(kefs_map_growing(images[KEFS], 0, NULL, most, &at, NULL), "kefs_map_growing");
+  mapped[KEFS] = at;
+}
+
+/* MDB_APPEND: rows come behind all others. */
+static int time_growth(int commits) {
+  int turn[MODES] = {KEFS, PLAIN}, number = 2;
+  size_t most = PAGE * ((size_t)PAGES + (size_t)count * (size_t)(commits + WARM_UP));
+  double slow = sync_time;
+  memset(ready, 1, sizeof ready);
+  sync_time = 0, map_bytes = 2 * most + (64u << 20);
+  open_growing(most), plain = new_file("bench.plain", PAGES * PAGE);
+  if (load_sqlite()) open_sqlite(WAL, "bench.wal", "WAL"), turn[number++] = WAL;
+  if (open_lmdb("bench.lmdb")) turn[number++] = LMDB;
+  for (int m = 0; m < MODES; m++) grown[m] = PAGES;
+  sync_time = slow, put_flags = 0x20000;
+  return time_turns(turn, number, commits, timed_growth);
 }
 
 /* A worn file */
@@ -542,11 +605,13 @@ int main(int argc, char **argv) {
   if (strcmp(argv[1], "sync") == 0) return time_syncs();
   if (strcmp(argv[1], "open") == 0 && count > 0) return time_openings((uint32_t)count);
   int commits = number_of(argc, argv, 4), is_worn = strcmp(argv[1], "worn") == 0, is_threads = strcmp(argv[1], "threads") == 0;
+  int is_growing = strcmp(argv[1], "grow") == 0;
   is_hot = argc > 5 && strcmp(argv[5], "hot") == 0;
-  sync_time = number_of(argc, argv, is_worn || is_threads ? 5 : 6);
+  sync_time = number_of(argc, argv, is_worn || is_threads || is_growing ? 5 : 6);
   if (commits < 1 || count < 1) return 2;
   commits_each = commits;
   if (is_threads) return time_threads(count, sync_time);
+  if (is_growing) return count > PAGES || image_layout() != 4 ? 2 : time_growth(commits);
   if (is_worn) return time_worn((size_t)count, commits);
   return (unsigned long)count > image_sectors()->most ? 2 : time_commits(commits);
 }

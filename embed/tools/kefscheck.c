@@ -52,12 +52,26 @@ static void tell_journal(struct kefs_image *image) {
   else printf("journal: closed\n");
 }
 
+/* Of layout 4: homes of no file, which files that grow get. */
+static unsigned long long count_free(struct kefs_image *image) {
+  unsigned long long used = image->layout.directory_pages;
+  for (unsigned f = 0; f < KEFS_FILES && f < entries_of(&image->layout); f++) {
+    struct file file;
+    const char *why;
+    if (read_entry(image, f, &file, &why) != KEFS_OK) continue;
+    for (unsigned i = 0; i < file.extent_count; i++) used += file.extents[i].count;
+  }
+  return used < home_pages(image) ? home_pages(image) - used : 0;
+}
+
 static void tell_image(struct kefs_image *image) {
   struct stat there;
   if (fstat(image->fd, &there) == 0)
     printf("size: %llu bytes, of which %llu have room on the device\n", (unsigned long long)there.st_size, (unsigned long long)there.st_blocks * 512);
   if (image->sectors < least_sectors(&image->layout) || !has_mark(image, image->layout.mark)) return;
-  printf("layout: %lu, %llu pages\n", (unsigned long)image->layout.number, (unsigned long long)home_pages(image));
+  printf("layout: %lu, %llu pages", (unsigned long)image->layout.number, (unsigned long long)home_pages(image));
+  if (image->layout.blocks > 0) printf(", %llu of them free", count_free(image));
+  printf("\n");
   tell_files(image);
   tell_journal(image);
 }
@@ -78,7 +92,7 @@ static int tell(const char *path) {
   if (image.fd < 0 || fstat(image.fd, &there) != 0) return failed(path, strerror(errno));
   if (!S_ISREG(there.st_mode)) return failed(path, "it is no regular file");
   image.sectors = (size_t)there.st_size / SECTOR;
-  image.bytes = new_memory(mapped_bytes(&image)); /* a mapping of the file would take room on a memory file system */
+  image.bytes = new_memory(mapped_bytes(image.sectors)); /* a mapping of the file would take room on a memory file system */
   if (image.bytes == NULL) return failed(path, strerror(ENOMEM));
   int result = read_kind(&image);
   if (result == KEFS_OK) result = make_rooms(&image);

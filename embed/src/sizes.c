@@ -1,0 +1,396 @@
+/* What files are to be: lengths that kefs_resize gives, and the commits that make them durable.
+
+   A file that is mapped has its length at once: pages that are cut off are gone from the memory, and those that come are zeros, and dirty. Of one that is not
+   mapped it is noted how many of its durable bytes are left: behind these it is zeros. A mapping that is made later brings both about, and from then on its
+   pages tell.
+
+   A commit that takes a length takes all pages of the file that are *new*: those behind the last one that is durable. They are written to free homes, and take
+   no slot of the pool, so they are listed apart, and may be any number. Of the other pages it takes the dirty ones of its ranges, and those of the file's
+   *edge*: the last durable page, where this is not full and the file gets longer; and of a file that is not mapped all that became zeros. What the edge has
+   more than the ranges goes as it is durable, or is zeros, and is not marked as taken. */
+#include "internal.h"
+#include <errno.h>
+#include <string.h>
+
+static const unsigned char zeros[PAGE];
+
+static int is_zero(const unsigned char *bytes, size_t length) { return memcmp(bytes, zeros, length) == 0; }
+
+/* Lengths */
+
+uint32_t length_of(const struct kefs_image *image, unsigned f) { return image->sizes[f].is_set ? image->sizes[f].length : image->files[f].length; }
+uint32_t left_of(const struct kefs_image *image, unsigned f) { return image->sizes[f].is_set ? image->sizes[f].left : image->files[f].length; }
+
+static void set_size(struct kefs_image *image, unsigned f, uint32_t length, uint32_t left) {
+  struct size *size = &image->sizes[f];
+  uint32_t durable = image->files[f].length;
+  size->length = length, size->left = left;
+  size->is_set = size->is_new || length != durable || left != durable;
+}
+
+void forget_size(struct kefs_image *image, unsigned f) { image->sizes[f] = (struct size){0}; }
+void settle_size(struct kefs_image *image, unsigned f) { set_size(image, f, length_of(image, f), image->files[f].length); }
+
+/* How many new pages a file has. */
+static size_t added_pages(const struct kefs_image *image, unsigned f) {
+  size_t durable = durable_pages(image, f), pages = (size_t)pages_of(length_of(image, f));
+  return pages > durable ? pages - durable : 0;
+}
+
+/* The pages of a file's edge. */
+static struct span edge_of(struct kefs_image *image, unsigned f) {
+  size_t durable = durable_pages(image, f), pages = (size_t)pages_of(length_of(image, f)), left = left_of(image, f);
+  if (length_of(image, f) <= left) return (struct span){&image->mappings[f], 0, 0};
+  return (struct span){&image->mappings[f], left / PAGE, pages < durable ? pages : durable};
+}
+
+/* Memory */
+
+/* Where a mapping has other bytes than zeros behind so many, up to the end of the page, *tail is where, and they may be stored to; else it is NULL. */
+static int open_tail(struct mapping *mapping, uint32_t length, unsigned char **tail) {
+  size_t k = length / PAGE, inside = length % PAGE;
+  struct span page = {mapping, k, k + 1};
+  int number = inside == 0 ? KEFS_OK : fill_missing(&page);
+  *tail = NULL;
+  if (inside == 0 || number != KEFS_OK || is_zero(mapping->at + length, PAGE - inside)) return number;
+  *tail = mapping->at + length;
+  return open_pages(&page);
+}
+
+/* Brings a mapping from one length to another. What may fail comes before what can't be taken back. */
+static int fit(struct mapping *mapping, uint32_t before, uint32_t length) {
+  uint32_t least = before < length ? before : length;
+  size_t pages = (size_t)pages_of(length);
+  unsigned char *tail;
+  int number = open_tail(mapping, least, &tail);
+  if (number == KEFS_OK && pages > mapping->pages) number = lengthen_mapping(mapping, pages);
+  if (number == KEFS_OK && pages < mapping->pages) number = shorten_mapping(mapping, pages);
+  if (number == KEFS_OK && tail != NULL) memset(tail, 0, PAGE - least % PAGE);
+  return number;
+}
+
+int fit_new_mapping(struct mapping *mapping) {
+  struct kefs_image *image = mapping->image;
+  unsigned f = file_number(mapping);
+  return image->sizes[f].is_set ? fit(mapping, left_of(image, f), length_of(image, f)) : KEFS_OK;
+}
+
+/* Resizing */
+
+static int check_resize(struct kefs_image *image, unsigned file, size_t length) {
+  if (image->read_only) return fail(image, KEFS_READ_ONLY, "kefs_resize");
+  int result = file_of(image, file);
+  if (result != KEFS_OK) return result;
+  if (is_names_file(image, file)) return fail(image, EINVAL, "file %u is the names of others", file);
+  if (image->files[file].read_only) return fail(image, KEFS_READ_ONLY, "file %u", file);
+  if (image->layout.blocks == 0) return fail(image, EOPNOTSUPP, "lengths of an image of layout %u", (unsigned)image->layout.number);
+  if (length > UINT32_MAX) return fail(image, EFBIG, "%zu bytes", length);
+  const struct mapping *mapping = &image->mappings[file];
+  if (mapping->at == NULL || pages_of((uint32_t)length) <= mapping->kept) return KEFS_OK;
+  return fail(image, ENOMEM, "%zu bytes of file %u, whose mapping keeps addresses for %zu pages", length, file, mapping->kept);
+}
+
+/* Of a mapped file what is left is all that is durable. */
+static int resize(struct kefs_image *image, unsigned f, uint32_t length) {
+  struct mapping *mapping = &image->mappings[f];
+  struct size kept = image->sizes[f];
+  uint32_t before = length_of(image, f), left = left_of(image, f);
+  if (length == before) return KEFS_OK;
+  set_size(image, f, length, mapping->at == NULL && length < left ? length : left);
+  int result = length > before ? make_homes(image) : KEFS_OK, number = KEFS_OK;
+  if (result == KEFS_OK && mapping->at != NULL) number = fit(mapping, before, length);
+  if (number != KEFS_OK) result = fail(image, number == EIO ? KEFS_DEVICE : number, "memory of file %u: %s", f, kefs_strerror(number));
+  if (result != KEFS_OK) image->sizes[f] = kept;
+  return result;
+}
+
+int kefs_resize(kefs_image *image, unsigned file, size_t length) {
+  int result = enter(image);
+  if (result != KEFS_OK) return result;
+  result = check_resize(image, file, length);
+  ignore_reads(1);
+  if (result == KEFS_OK) result = resize(image, file, (uint32_t)length);
+  ignore_reads(0);
+  return leave(image, result);
+}
+
+/* Commits */
+
+/* What a call of these ranges is of: a bit for each file whose length it takes, or that comes or goes, and whether it takes names. */
+struct meant { uint64_t files; int names; };
+
+static int is_meant(const struct meant *meant, unsigned f) { return (int)(meant->files >> f & 1); }
+
+static struct meant find_meant(struct kefs_image *image, const struct kefs_range *ranges, size_t count) {
+  struct meant meant = {0, means_files(image, ranges, count)};
+  for (unsigned f = 0; f < KEFS_FILES; f++) {
+    if (!image->sizes[f].is_set) continue;
+    int takes = comes_or_goes(image, f) ? meant.names : ranges == NULL || has_byte_of(&image->mappings[f], ranges, count);
+    meant.files |= (uint64_t)takes << f;
+  }
+  return meant;
+}
+
+int has_sizes(struct kefs_image *image, const struct kefs_range *ranges, size_t count) {
+  struct meant meant = find_meant(image, ranges, count);
+  return meant.files != 0 || (meant.names && pending_names(image) != 0);
+}
+
+static void add_size(struct kefs_image *image, unsigned f) {
+  struct resizing *resizing = &image->resizing;
+  int is_next_page = resizing->count == 0 || resizing->sizes[resizing->count - 1].file / PAGE_ENTRIES != f / PAGE_ENTRIES;
+  resizing->sizes[resizing->count++] = (struct famsync_size){f, (uint32_t)is_there(image, f), length_of(image, f)};
+  resizing->added += added_pages(image, f);
+  resizing->directory += (size_t)is_next_page;
+}
+
+/* To map room anew would take longer than all else that a commit of a page does. So it stays for the next commits, and gets larger in steps; but room for more
+   new pages than MOST_KEPT goes with its commit. For so many the plans have 8 MiB of addresses, and memory only where one of them was as long. */
+enum { LEAST_ROOM = 64, MOST_KEPT = 1024 };
+
+static size_t room_for(size_t added) {
+  size_t room = LEAST_ROOM;
+  while (room < added && room < MOST_KEPT) room *= 2;
+  return room < added ? added : room;
+}
+
+static size_t lent_length(const struct kefs_image *image, size_t room) { return (room + image->places.room) * sizeof(struct famsync_bytes); }
+
+static void drop_lent(struct kefs_image *image) {
+  struct resizing *resizing = &image->resizing;
+  drop_memory(resizing->lent.bytes, lent_length(image, resizing->room));
+  resizing->lent.bytes = NULL, resizing->room = 0;
+}
+
+/* Where there is room in plans, and none for the rest, the end of the commit gives that of the plans back. */
+static int make_sizes_room(struct kefs_image *image) {
+  struct resizing *resizing = &image->resizing;
+  size_t room = room_for(resizing->added);
+  if (resizing->edges == NULL) resizing->edges = new_memory((size_t)KEFS_FILES * PAGE);
+  if (resizing->edges == NULL) return ENOMEM;
+  if (room <= resizing->room) return KEFS_OK;
+  int number = set_plan_rooms(image, room);
+  if (number != KEFS_OK) return number;
+  drop_lent(image);
+  resizing->lent.bytes = new_memory(lent_length(image, room));
+  if (resizing->lent.bytes == NULL) return ENOMEM;
+  resizing->room = room;
+  return KEFS_OK;
+}
+
+static void trim_room(struct kefs_image *image) {
+  if (image->resizing.room > MOST_KEPT) drop_lent(image);
+  set_plan_rooms(image, image->resizing.room);
+}
+
+void drop_sizes(struct kefs_image *image) {
+  drop_lent(image);
+  drop_memory(image->resizing.edges, (size_t)KEFS_FILES * PAGE);
+  image->resizing.edges = NULL;
+}
+
+/* Those of a mapped file. */
+static struct span new_pages(struct kefs_image *image, unsigned f) {
+  struct mapping *mapping = &image->mappings[f];
+  return (struct span){mapping, mapping->pages - (mapping->at == NULL ? 0 : added_pages(image, f)), mapping->pages};
+}
+
+/* As any page that is taken, noted, taken and sealed in this order. They stay new until the commit is done, so no mark has to say that they are taken. */
+static int take_new_pages(struct kefs_image *image, unsigned f) {
+  struct span span = new_pages(image, f);
+  if (span.first == span.end) return KEFS_OK;
+  int number = note_dirty(&span);
+  if (number != KEFS_OK) return number;
+  set_marks(&span, 0);
+  return seal(&span);
+}
+
+int take_sizes(struct kefs_image *image, const struct kefs_range *ranges, size_t count) {
+  struct resizing *resizing = &image->resizing;
+  struct meant meant = find_meant(image, ranges, count);
+  resizing->names = meant.names ? pending_names(image) : 0;
+  for (unsigned f = 0; f < KEFS_FILES; f++)
+    if (is_meant(&meant, f)) add_size(image, f);
+  int number = resizing->count > 0 ? make_sizes_room(image) : KEFS_OK;
+  for (size_t i = 0; i < resizing->count && number == KEFS_OK; i++) number = take_new_pages(image, resizing->sizes[i].file);
+  return number == KEFS_OK ? KEFS_OK : fail(image, number, "taking new pages");
+}
+
+/* Pages of the names go with it as those of an edge do. */
+static int put_names(struct kefs_image *image) {
+  for (size_t k = 0; k < NAMES_PAGES; k++)
+    if ((image->resizing.names >> k & 1) != 0 && !put_taken(image, 0, k)) return are_too_many(image);
+  return KEFS_OK;
+}
+
+static int take_edge(struct kefs_image *image, unsigned f) {
+  struct span edge = edge_of(image, f);
+  for (size_t k = edge.first; k < edge.end; k++)
+    if (!is_taken(edge.mapping, k) && !put_taken(image, f, k)) return are_too_many(image);
+  return KEFS_OK;
+}
+
+int take_edges(struct kefs_image *image) {
+  const struct resizing *resizing = &image->resizing;
+  int result = put_names(image);
+  for (size_t i = 0; i < resizing->count && result == KEFS_OK; i++) result = take_edge(image, resizing->sizes[i].file);
+  return result;
+}
+
+const unsigned char *edge_bytes(struct kefs_image *image, unsigned f, size_t k) {
+  if (is_names_file(image, f)) return names_page(image, k);
+  size_t left = left_of(image, f);
+  unsigned char *edge = image->resizing.edges + (size_t)PAGE * f;
+  if (k * PAGE >= left) return zeros;
+  copy_durable(image, f, k, edge);
+  if (left - k * PAGE < PAGE) memset(edge + (left - k * PAGE), 0, PAGE - (left - k * PAGE));
+  return edge;
+}
+
+static size_t list_new_bytes(struct kefs_image *image, unsigned f, size_t at) {
+  const struct mapping *mapping = &image->mappings[f];
+  size_t first = durable_pages(image, f), added = added_pages(image, f);
+  for (size_t k = first; k < first + added; k++)
+    image->resizing.lent.bytes[at++].at = mapping->at == NULL ? zeros : mapping->at + k * PAGE;
+  return at;
+}
+
+static void list_lent(struct kefs_image *image) {
+  struct resizing *resizing = &image->resizing;
+  size_t at = 0;
+  for (size_t i = 0; i < resizing->count; i++) at = list_new_bytes(image, resizing->sizes[i].file, at);
+  resizing->lent.pages = image->taken.pages;
+  resizing->lent.count = image->taken.count;
+  memcpy(resizing->lent.bytes + at, image->taken.bytes, image->taken.count * sizeof *image->taken.bytes);
+}
+
+static int result_of(uint32_t answer) {
+  switch (answer) {
+    case FAMSYNC_OK: return KEFS_OK;
+    case FAMSYNC_BAD_JOURNAL: return KEFS_BAD_JOURNAL;
+    case FAMSYNC_NO_ROOM: return KEFS_TOO_MANY;
+    case FAMSYNC_NO_MEMORY: return ENOMEM;
+    case FAMSYNC_NO_HOMES: return EFBIG;
+    default: return KEFS_NOT_IMAGE; /* another program has written over the layout: no other refusal is left */
+  }
+}
+
+static uint32_t plan_sizes(struct kefs_image *image, struct famsync_handle *handle) {
+  struct plan *scratch = &image->scratch, *plan = &image->plan;
+  const struct resizing *resizing = &image->resizing;
+  const struct taken *lent = &resizing->lent;
+  begin_heap(&image->heap);
+  uint32_t answer = famsync_resize(handle, image->bytes, image->sectors, scratch->calls, scratch->room, scratch->rows, scratch->room, &plan->used,
+                                   plan->calls, plan->room, plan->rows, plan->room, resizing->sizes, resizing->count, lent->pages, lent->count,
+                                   lent->bytes, resizing->added + lent->count);
+  end_heap();
+  return answer;
+}
+
+/* Where the host file could not get longer kefs_resize was content with fewer homes than the plan tries to give. */
+int commit_sizes(struct kefs_image *image) {
+  struct famsync_handle handle = image->handle;
+  list_lent(image);
+  image->planned = &image->resizing.lent;
+  uint32_t answer = plan_sizes(image, &handle);
+  if (answer == FAMSYNC_NO_HOMES) {
+    int result = lengthen_image(image);
+    if (result != KEFS_OK) return result;
+    handle = image->handle;
+    answer = plan_sizes(image, &handle);
+  }
+  if (answer == FAMSYNC_OK) return make_plan_calls(image, &handle);
+  return fail(image, result_of(answer), "no plan for %zu lengths, %zu new pages and %zu others (%u)", image->resizing.count, image->resizing.added,
+              image->resizing.lent.count, (unsigned)answer);
+}
+
+int next_new_homes(struct new_homes *it, struct extent *homes) {
+  struct kefs_image *image = it->image;
+  for (; it->size < image->resizing.count; it->size++, it->page = 0) {
+    unsigned f = image->resizing.sizes[it->size].file;
+    struct file file;
+    const char *why;
+    size_t before = durable_pages(image, f), first = it->page > before ? it->page : before;
+    int is_entry = read_entry(image, f, &file, &why) == KEFS_OK;
+    size_t run = is_entry && first < pages_of(file.length) ? homes_from(&file, first, &homes->first) : 0;
+    if (run == 0) continue;
+    size_t left = (size_t)pages_of(file.length) - first;
+    homes->count = (uint32_t)(run < left ? run : left);
+    it->page = first + homes->count;
+    return 1;
+  }
+  return 0;
+}
+
+/* Pages that are new still are dirty, and open to system calls, as they were. */
+static void give_back_new_pages(struct kefs_image *image, unsigned f) {
+  struct span span = new_pages(image, f);
+  if (span.first == span.end) return;
+  set_marks(&span, DIRTY);
+  open_pages(&span);
+}
+
+void end_sizes(struct kefs_image *image, int done) {
+  struct resizing *resizing = &image->resizing;
+  if (done) settle_names(image, resizing->names);
+  resizing->names = 0;
+  if (resizing->count == 0) return;
+  if (done) read_directory(image);
+  for (size_t i = 0; i < resizing->count; i++)
+    if (done) forget_size(image, resizing->sizes[i].file);
+    else give_back_new_pages(image, resizing->sizes[i].file);
+  resizing->count = resizing->added = resizing->directory = resizing->lent.count = 0;
+  trim_room(image);
+}
+
+/* Counts and roll backs */
+
+static size_t count_edge(struct kefs_image *image, unsigned f) {
+  struct span edge = edge_of(image, f);
+  size_t pages = 0;
+  for (size_t k = edge.first; k < edge.end; k++) pages += (size_t)!is_taken(edge.mapping, k);
+  return pages;
+}
+
+size_t count_sized(struct kefs_image *image, const struct kefs_range *ranges, size_t count) {
+  struct meant meant = find_meant(image, ranges, count);
+  size_t pages = meant.names ? (size_t)__builtin_popcount(pending_names(image)) : 0;
+  for (unsigned f = 0; f < KEFS_FILES; f++)
+    if (is_meant(&meant, f)) pages += added_pages(image, f) + count_edge(image, f);
+  return pages;
+}
+
+/* The bytes of a page that were cut off from its end. */
+static int restore_tail(struct mapping *mapping, uint32_t length) {
+  unsigned char page[PAGE];
+  size_t k = length / PAGE, inside = length % PAGE;
+  struct span span = {mapping, k, k + 1};
+  if (inside == 0) return KEFS_OK;
+  copy_committed(mapping, k, page);
+  int number = fill_missing(&span);
+  if (number != KEFS_OK || memcmp(mapping->at + length, page + inside, PAGE - inside) == 0) return number;
+  number = open_pages(&span);
+  if (number == KEFS_OK) memcpy(mapping->at + length, page + inside, PAGE - inside);
+  return number;
+}
+
+static int roll_back_size(struct kefs_image *image, unsigned f) {
+  struct mapping *mapping = &image->mappings[f];
+  uint32_t durable = image->files[f].length, length = length_of(image, f);
+  int number = KEFS_OK;
+  if (mapping->at != NULL && length > durable) number = fit(mapping, length, durable);
+  if (mapping->at != NULL && length < durable) number = restore_tail(mapping, length);
+  if (mapping->at != NULL && number == KEFS_OK && durable_pages(image, f) > mapping->pages) number = restore_mapping(mapping, durable_pages(image, f));
+  if (number == KEFS_OK) forget_size(image, f);
+  return number;
+}
+
+/* Where it fails, the names that are left are of files that are there. */
+int roll_back_sizes(struct kefs_image *image, const struct kefs_range *ranges, size_t count) {
+  struct meant meant = find_meant(image, ranges, count);
+  int number = KEFS_OK;
+  for (unsigned f = 0; f < KEFS_FILES && number == KEFS_OK; f++)
+    if (is_meant(&meant, f)) number = roll_back_size(image, f);
+  if (meant.names) roll_back_names(image);
+  return number;
+}
