@@ -441,6 +441,20 @@ static void lengths_change_while_others_commit(void) {
   DONE(kefs_close(image));
 }
 
+/* Syncs of the commit by which a file gets so many pages more: no clause counts them. */
+static unsigned long syncs_of_growth(size_t pages) {
+  unsigned long syncs = facts().syncs;
+  DONE(kefs_resize(image, 0, length_of(0) + pages * PAGE));
+  CHECK(committed() == pages);
+  return facts().syncs - syncs;
+}
+
+static void few_new_pages_take_no_sync_more(void) {
+  begin_with(PAGE, 1, 0);
+  CHECK(syncs_of_growth(1) == 2 && syncs_of_growth(64) == 2 && syncs_of_growth(65) == 3);
+  DONE(kefs_close(image));
+}
+
 static void *store_for_ever(void *of) {
   volatile unsigned char *at = of;
   for (int i = 0; goes_on(); i = (i + 1) % 50) {
@@ -481,6 +495,6 @@ static const struct test with_each_tracker[] = {
   TEST(a_range_takes_a_length_back), TEST(a_roll_back_of_a_cut_goes_to_what_was_started), TEST(a_start_of_a_length_is_durable),
   TEST(lengths_change_while_others_commit), TEST(stores_to_new_pages_are_not_lost)};
 static const struct test once[] = {
-  TEST(a_file_that_was_cut_may_have_too_many_pages)};
+  TEST(a_file_that_was_cut_may_have_too_many_pages), TEST(few_new_pages_take_no_sync_more)};
 
 int main(int argc, char **argv) { return run_growing(argc, argv, once, COUNT_OF(once), with_each_tracker, COUNT_OF(with_each_tracker)); }
