@@ -26,7 +26,7 @@ pub fn check_page<D: SectorDisk>(store: &Store<D>, page: FilePage) -> bool
     ensures { IsTrue result ↔ IsPageOf (files_of store.now) page.file page.page }
 {
     match store.file(page.file) {
-        Some(info) => 4096 * u64::from(page.page) < u64::from(info.length),
+        Some(info) => 4096 * u64::from(page.page) < info.length,
         None => false,
     }
 }
@@ -140,7 +140,7 @@ fn has_read_only<D: SectorDisk>(store: &Store<D>, pages: &[FilePage]) -> bool
     false
 }
 
-fn is_read_only<D: SectorDisk>(store: &Store<D>, file: u8) -> bool
+fn is_read_only<D: SectorDisk>(store: &Store<D>, file: u16) -> bool
     ensures { IsTrue result ↔ IsReadOnly (files_of store.now) file }
 {
     match store.file(file) {

@@ -89,7 +89,7 @@ says_nothing bytes NotZero (Some e) why says = flags_set e (sym says.flags ∙ w
 says_nothing bytes Extents None why says = let none = zeros_flag bytes says in ⊎_elim (λ one. omega (arith, none, one)) (λ three. omega (arith, none, three)) why.0
 says_nothing bytes Extents (Some e) why says = let count = says.count in let few = says.few in let many = why.1 in omega arith
 
-pub refused : (bytes : List ℕ) (r : Result (Option Entry) EntryFault) → IfErr r (IsNoEntry bytes) → OnErr r ((e : Option Entry) → SaysEntry bytes e → ⊥)
+pub refused : {T : Type 0} → (bytes : List ℕ) (r : Result T EntryFault) → IfErr r (IsNoEntry bytes) → OnErr r ((e : Option Entry) → SaysEntry bytes e → ⊥)
 refused bytes (Ok _) why = tt
 refused bytes (Err fault) why = λ e. says_nothing bytes fault e why
 

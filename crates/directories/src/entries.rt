@@ -1,5 +1,5 @@
 //! Entries as bytes, 256 of them each and 16 entries to a page.
-ghost use Rattle.std.specs.Prelude.{◌≡◌, ◌≢◌, ◌≤◌, ◌<◌, ℕ, ◌+◌, ◌*◌, length, replicate, Option, IfOk, IfErr, OnErr, IfSome, if◌then◌else◌};
+ghost use Rattle.std.specs.Prelude.{◌≡◌, ◌≢◌, ◌≤◌, ◌<◌, ℕ, ◌+◌, ◌*◌, length, replicate, Option, IfOk, IfErr, OnOk, OnErr, IfSome, if◌then◌else◌};
 ghost use Rattle.directories.specs.declared.entry.Entry.{Entry};
 ghost use Rattle.directories.specs.Entries.{number_at, entry_bytes, SaysFile, SaysEntry, IsNoEntry, HoldsExtents, extent_at, SameBelow, SameBeside};
 
@@ -25,8 +25,25 @@ pub fn read_entry(page: &[u8; 4096], place: usize) -> Result<Option<Entry>, Entr
     ensures fault { IfErr result (IsNoEntry (entry_bytes page.now place)) }
     ensures none { OnErr result ((e : Option Entry) → SaysEntry (entry_bytes page.now place) e → ⊥) }
 {
+    let mut entry = None;
+    read_entry_into(page, place, &mut entry)?;
+    Ok(entry)
+}
+
+/// Reads what the entry at a place of a page of the directory says straight to where it is to stand, so that nothing moves it. A fault is told exactly
+/// where it says neither a file nor that there is none, and nothing is promised then of what stands there.
+pub fn read_entry_into(
+    page: &[u8; 4096],
+    place: usize,
+    to: &mut Option<Entry>,
+) -> Result<(), EntryFault>
+    requires { place < 16 }
+    ensures entry { OnOk result (SaysEntry (entry_bytes page.now place) to.new) }
+    ensures fault { IfErr result (IsNoEntry (entry_bytes page.now place)) }
+    ensures none { OnErr result ((e : Option Entry) → SaysEntry (entry_bytes page.now place) e → ⊥) }
+{
     let start = ENTRY_BYTES * place;
-    decode(&page[start..start + ENTRY_BYTES])
+    decode(&page[start..start + ENTRY_BYTES], to)
 }
 
 /// Writes the entry at a place of a page of the directory, and changes no other.
@@ -40,50 +57,52 @@ pub fn write_entry(page: &mut [u8; 4096], place: usize, entry: &Option<Entry>)
     encode(&mut page[start..start + ENTRY_BYTES], entry);
 }
 
-/// What these bytes say.
-fn decode(bytes: &[u8]) -> Result<Option<Entry>, EntryFault>
+/// Reads what these bytes say.
+fn decode(bytes: &[u8], to: &mut Option<Entry>) -> Result<(), EntryFault>
     requires { length bytes.now ≡ 256 }
-    ensures entry { IfOk result (SaysEntry bytes.now) }
+    ensures entry { OnOk result (SaysEntry bytes.now to.new) }
     ensures fault { IfErr result (IsNoEntry bytes.now) }
 {
     match number_at(bytes, 0) {
-        0 => decode_none(bytes),
-        1 => decode_file(bytes, false),
-        3 => decode_file(bytes, true),
+        0 => decode_none(bytes, to),
+        1 => decode_file(bytes, false, to),
+        3 => decode_file(bytes, true, to),
         _ => Err(EntryFault::Flags),
     }
 }
 
-/// What these bytes say, whose flags are zero.
-fn decode_none(bytes: &[u8]) -> Result<Option<Entry>, EntryFault>
+/// Reads what these bytes say, whose flags are zero.
+fn decode_none(bytes: &[u8], to: &mut Option<Entry>) -> Result<(), EntryFault>
     requires flags { number_at 0 bytes.now ≡ 0 }
-    ensures entry { IfOk result (SaysEntry bytes.now) }
+    ensures entry { OnOk result (SaysEntry bytes.now to.new) }
     ensures fault { IfErr result (IsNoEntry bytes.now) }
 {
     if bytes == [0; ENTRY_BYTES].as_slice() {
-        Ok(None)
+        *to = None;
+        Ok(())
     } else {
         Err(EntryFault::NotZero)
     }
 }
 
-/// What these bytes say, whose flags are a file's.
-fn decode_file(bytes: &[u8], read_only: bool) -> Result<Option<Entry>, EntryFault>
+/// Reads what these bytes say, whose flags are a file's.
+fn decode_file(bytes: &[u8], read_only: bool, to: &mut Option<Entry>) -> Result<(), EntryFault>
     requires size { length bytes.now ≡ 256 }
     requires flags { number_at 0 bytes.now ≡ (if read_only then 3 else 1) }
-    ensures entry { IfOk result (SaysEntry bytes.now) }
+    ensures entry { OnOk result (SaysEntry bytes.now to.new) }
     ensures fault { IfErr result (IsNoEntry bytes.now) }
 {
     let extent_count = number_at(bytes, 4);
     if extent_count > EXTENTS as u32 {
         return Err(EntryFault::Extents);
     }
-    Ok(Some(Entry {
+    *to = Some(Entry {
         read_only,
         length: LittleEndian::read_u64(&bytes[8..]),
         extent_count,
         extents: decode_extents(bytes),
-    }))
+    });
+    Ok(())
 }
 
 /// The extents of an entry of these bytes.

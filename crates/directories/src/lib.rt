@@ -32,7 +32,7 @@ mod numbers;
 mod pieces;
 
 pub use checking::{MAX_FILES, check, lie_within};
-pub use entries::{PAGE_ENTRIES, read_entry, write_entry};
+pub use entries::{PAGE_ENTRIES, read_entry, read_entry_into, write_entry};
 pub use entry::{Entry, EntryFault, Extent};
 pub use faults::LayoutFault;
 pub use kind::{Kind, KindFault, MAX_DIRECTORY_PAGES, MAX_MAP_BLOCKS};

@@ -265,7 +265,7 @@ pub extern "C" fn famsync_read(
     image: &[[u8; 512]],
     scratch_calls: &mut [Call],
     scratch_rows: &mut [[u8; 512]],
-    file: u8,
+    file: u16,
     page: u32,
     to: &mut [u8; 4096],
 ) -> u32
@@ -302,8 +302,8 @@ pub extern "C" fn famsync_length(
     image: &[[u8; 512]],
     scratch_calls: &mut [Call],
     scratch_rows: &mut [[u8; 512]],
-    file: u8,
-    to: &mut u32,
+    file: u16,
+    to: &mut u64,
 ) -> u32
     ensures length { result ≡ done → (info : FileInfo) × (file_info (length image.now) (row image.now) file ≡ Some info) × (to.new ≡ info.length) }
     ensures store { result ≡ done → IsStore (length image.now) (row image.now) }

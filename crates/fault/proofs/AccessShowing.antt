@@ -15,12 +15,12 @@ module _ {mode : ℕ} where
     pub objects : (p : ObjectPage) (bytes : List ℕ) → held c (Object p) ≡ Some bytes → or_zeros (s.objects p.object p.page) ≡ bytes
     pub stored : (p : ObjectPage) (bytes : List ℕ) → s.objects p.object p.page ≡ Some bytes → held c (Object p) ≡ Some bytes
     pub held : (p : FilePage) (bytes : List ℕ) → held c (File p) ≡ Some bytes → s.volatile p.file p.page ≡ bytes
-    pub clean : (p : FilePage) → s.touched p.file p.page ≡ false → IsPageOf c.files p.file p.page → s.volatile p.file p.page ≡ s.durable p.file p.page
+    pub clean : (p : FilePage) → s.touched p.file p.page ≡ false → IsPageOf c.files p.file p.page → s.volatile p.file p.page ≡ s.durable.pages p.file p.page
 
 module _ {mode : ℕ} where
   -- what is at home is as it is durable
   abbrev pub IsHomeDurable : {D : Type 0} → Ghosts D → D → Picture mode → State → Type 0
-  IsHomeDurable g disk c s = (p : FilePage) → IsPageOf c.files p.file p.page → standing_page (g.sector_count disk) (g.content disk) p.file p.page ≡ s.durable p.file p.page
+  IsHomeDurable g disk c s = (p : FilePage) → IsPageOf c.files p.file p.page → standing_page (g.sector_count disk) (g.content disk) p.file p.page ≡ s.durable.pages p.file p.page
 
 page_of_same : {mode : ℕ} (old new : Picture mode) (p : FilePage) → ((f : ℕ) → new.files f ≡ old.files f) → IsPageOf new.files p.file p.page → IsPageOf old.files p.file p.page
 page_of_same old new p files inside = (inside.0, sym (files p.file) ∙ inside.1, inside.2)

@@ -11,7 +11,7 @@ bounded directory = record {
   each = λ f k inside.
       let b = entry_behind (entry_of directory f) inside.0 inside.1 in
       let lt : 4096 * k < b.0.info.length = subst (λ (i : FileInfo). 4096 * k < i.length) (sym b.2) inside.2 in
-      let short = directory.lengths f b.0 b.1 in (directory.numbers f b.0 b.1, omega (arith, lt, short));
+      let few = directory.numbers f b.0 b.1 in let short = directory.lengths f b.0 b.1 in (omega (arith, few), omega (arith, lt, short));
 }
 
 module _ {D : Type 0} (g : Ghosts D) where

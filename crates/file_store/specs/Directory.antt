@@ -2,10 +2,9 @@
 -- Of the first number, bit 31 says that the file is there, bit 30 that it is read-only, and bits 0 to 29 are its first
 -- home page; its other home pages follow. The second is its length in bytes.
 use Rattle.std.specs.Prelude.{ℕ, ◌+◌, ◌*◌, ◌^◌, ◌/◌, ◌%◌, ◌<◌, ◌≤◌, ◌≡◌, List, drop, get_or, Option, Some, None, IfSome, nat_lt, if◌then◌else◌, ◌==◌}
-use Rattle.vm_types.specs.Limits.{file_limit}
 use Rattle.byteorder.specs.Endian.{little_number}
 use Rattle.file_store.specs.declared.directory.Entry.{Entry}
-use Rattle.file_store.specs.Layout.{pages_of_length}
+use Rattle.file_store.specs.Layout.{pages_of_length, listed_files}
 
 abbrev pub word_of : List ℕ → ℕ
 word_of bytes = little_number 4 bytes
@@ -30,7 +29,7 @@ entry_bytes sector f = drop (8 * f) sector
 
 -- the entry of file f in a directory sector
 unfoldable pub entry_in : List ℕ → ℕ → Option Entry
-entry_in sector f = if nat_lt f file_limit then decoded (entry_bytes sector f) else None
+entry_in sector f = if nat_lt f listed_files then decoded (entry_bytes sector f) else None
 
 -- the home page behind a file's last
 abbrev pub home_end : Entry → ℕ
@@ -42,7 +41,7 @@ IsHomeOf e h = (e.first ≤ h) × (h < home_end e)
 -- A directory that no store of so many home pages has.
 pub data IsBadDirectory (homes : ℕ) (sector : List ℕ) : Type 0 where
   -- an entry of no file is not wholly zero
-  NotZero : (f : ℕ) → f < file_limit → entry_in sector f ≡ None → (IsZero (entry_bytes sector f) → ⊥) → IsBadDirectory homes sector
+  NotZero : (f : ℕ) → f < listed_files → entry_in sector f ≡ None → (IsZero (entry_bytes sector f) → ⊥) → IsBadDirectory homes sector
   -- a file's homes do not end within the store
   Outside : (f : ℕ) (e : Entry) → entry_in sector f ≡ Some e → homes < home_end e → IsBadDirectory homes sector
   -- two files have a home page in common

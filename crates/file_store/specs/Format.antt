@@ -1,6 +1,5 @@
 -- What a new store is made of.
 use Rattle.std.specs.Prelude.{ℕ, ◌+◌, ◌*◌, ◌%◌, ◌<◌, ◌≤◌, ◌≡◌, ◌⊎◌, List, [], ◌∷◌, take, drop, length, slice_get, Option, Some, None, IsSome}
-use Rattle.vm_types.specs.Limits.{file_limit}
 use Rattle.std.specs.Option.{option_map}
 use Rattle.vm_types.specs.declared.file.FileInfo.{FileInfo}
 use Rattle.disk_model.specs.Stop.{Image}
@@ -9,7 +8,7 @@ use Rattle.sync_journal.specs.Layout.{gate_sector, first_home_sector, home_count
 use Rattle.disk_model.specs.Sectors.{part_of}
 use Rattle.file_store.specs.declared.directory.Entry.{Entry}
 use Rattle.file_store.specs.declared.sources.FileSource.{FileSource}
-use Rattle.file_store.specs.Layout.{mark, IsMark, pages_of_length, bytes_inside, padded_page}
+use Rattle.file_store.specs.Layout.{mark, IsMark, pages_of_length, bytes_inside, padded_page, listed_files}
 use Rattle.file_store.specs.Directory.{entry_in, entry_bytes, IsZero}
 use Rattle.file_store.specs.Standing.{IsBadLayout, IsBadJournal, file_info, standing_page}
 
@@ -76,7 +75,7 @@ module _ {R : Type 0} where
 
   -- No store on so many sectors holds these files.
   pub data IsTooLarge (sectors : ℕ) (sources : List (FileSource R)) : Type 0 where
-    TooManyFiles : file_limit < length sources → IsTooLarge sectors sources
+    TooManyFiles : listed_files < length sources → IsTooLarge sectors sources
     TooFewSectors : sectors < first_home_sector → IsTooLarge sectors sources
     TooManyPages : home_count sectors < total_pages sources → IsTooLarge sectors sources
 
@@ -114,7 +113,7 @@ module _ {R : Type 0} where
   -- the directory sector of these files
   pub record IsDirectoryOf (sources : List (FileSource R)) (sector : List ℕ) : Type 0 where
     pub entries : (f : ℕ) → entry_in sector f ≡ entry_given sources f
-    pub rest : (f : ℕ) → f < file_limit → length sources ≤ f → IsZero (entry_bytes sector f)
+    pub rest : (f : ℕ) → f < listed_files → length sources ≤ f → IsZero (entry_bytes sector f)
 
   -- The homes from first on hold the first n pages of the source: the pages that it tells, where it does, and zeros past
   -- its end.

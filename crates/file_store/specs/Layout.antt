@@ -19,6 +19,10 @@ mark_3 = repeated 64 (70 ∷ 65 ∷ 77 ∷ 83 ∷ 89 ∷ 78 ∷ 67 ∷ 51 ∷ []
 unfoldable pub pool_mark : List ℕ
 pool_mark = repeated 64 (70 ∷ 65 ∷ 77 ∷ 83 ∷ 89 ∷ 78 ∷ 67 ∷ 52 ∷ [])
 
+-- the most files of a store of layouts 1 to 3: the directory, a sector of 512 bytes, has an entry of eight bytes for each
+abbrev pub listed_files : ℕ
+listed_files = 64
+
 -- the mark of any layout
 abbrev pub IsMark : List ℕ → Type 0
 IsMark sector = (sector ≡ mark) ⊎ ((sector ≡ mark_1) ⊎ ((sector ≡ mark_3) ⊎ (sector ≡ pool_mark)))

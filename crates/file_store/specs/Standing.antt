@@ -68,7 +68,7 @@ standing_page image f k = standing_page_at Two (standing image) image f k
 abbrev pub IsPageOf : (ℕ → Option FileInfo) → ℕ → ℕ → Type 0
 IsPageOf files f k = (info : FileInfo) × (files f ≡ Some info) × (4096 * k < info.length)
 
--- Files that a directory can say: their numbers are under 64, and their lengths are of four bytes.
+-- Files that a directory of any layout can say: their numbers are under 4,096, and they have 2 ^ 30 pages at most.
 pub record AreBounded (files : ℕ → Option FileInfo) : Type 0 where
   pub each : (f k : ℕ) → IsPageOf files f k → (f < file_limit) × (k < file_page_limit)
 

@@ -1,6 +1,5 @@
 -- What an upgrade makes of a store of layout 1: one of layout 2. And a store of any of the layouts that an upgrade reads.
 use Rattle.std.specs.Prelude.{ℕ, ◌+◌, ◌<◌, ◌≤◌, ◌≡◌, ◌⊎◌, List, Option, None, Some, Result, IsErrOf}
-use Rattle.vm_types.specs.Limits.{file_limit}
 use Rattle.vm_types.specs.declared.file.FileInfo.{FileInfo}
 use Rattle.disk_model.specs.Stop.{Image}
 use Rattle.sync_journal.specs.Layout.{first_home_sector, home_count, home_sector, IsPageSector}
@@ -13,7 +12,7 @@ use Rattle.file_store.specs.declared.directory.Entry.{Entry}
 use Rattle.file_store.specs.declared.old_store.OldStore.{OldStore}
 use Rattle.file_store.specs.declared.faults.UpgradeFault.{UpgradeFault}
 use Rattle.file_store.specs.declared.faults.UpgradeFault.TheVariants.{OldDevice, NewDevice}
-use Rattle.file_store.specs.Layout.{mark, IsMark, pages_of_length}
+use Rattle.file_store.specs.Layout.{mark, IsMark, pages_of_length, listed_files}
 use Rattle.file_store.specs.Directory.{home_end, IsHomeOf}
 use Rattle.file_store.specs.Format.{IsMarkSector, IsLayoutSector, HoldsPage, HasHead}
 use Rattle.file_store.specs.Standing.{IsHeadIn, IsBadLayout, IsBadJournal, OldStandsFor, StandsFor, listed_entry, page_standing_in}
@@ -89,7 +88,7 @@ IsUpgradeSector old k = IsMarkSector k ⊎ IsCopiedSector (old_entry One old) k
 -- The image has all of an upgraded store but the mark: the directory as it was, a gate of zeros, and the homes.
 pub record IsUnmarkedUpgrade (old image : Image) : Type 0 where
   pub head : HasHead (old_directory One old) image
-  pub files : HoldsOldFiles old file_limit image
+  pub files : HoldsOldFiles old listed_files image
 
 -- The image is an upgraded store: it stands for what the old one stands for.
 pub record IsUpgradeOf (old_sectors sectors : ℕ) (old image : Image) : Type 0 where

@@ -1,14 +1,13 @@
 //! The directory in memory.
 ghost use Rattle.std.specs.Prelude.{◌≡◌, ◌<◌, ◌≤◌, ◌+◌, ◌^◌, ℕ, length, get_or, drop, Option, Some, None, IsSome, IfOk, IfSome, OnOk, OnErr, IsTrue, IsFalse, ◌↔◌};
-ghost use Rattle.vm_types.specs.Limits.{file_limit};
 ghost use Rattle.disk_model.specs.Sectors.{sector_bytes};
 ghost use Rattle.file_store.specs.declared.directory.Entry.{Entry};
-ghost use Rattle.file_store.specs.Layout.{pages_of_length};
+ghost use Rattle.file_store.specs.Layout.{pages_of_length, listed_files};
 ghost use Rattle.file_store.specs.Directory.{decoded, entry_in, home_end, IsHomeOf, IsZero, IsBadDirectory, IsNextOf, AreGood, AreEntries};
 
-use crate::layout::PAGE_BYTES;
+use crate::layout::{LISTED_FILES, PAGE_BYTES};
 use byteorder::{ByteOrder, LittleEndian};
-use vm_types::{FILES, FileInfo, FilePage};
+use vm_types::{FileInfo, FilePage};
 
 /// Bit 31 of an entry's first number: the file is there.
 const PRESENT: u32 = 1 << 31;
@@ -36,7 +35,7 @@ impl Entry {
         ensures fits { IfSome result (λ e. e.info.length < 2 ^ 32) }
     {
         let word = LittleEndian::read_u32(bytes);
-        let length = LittleEndian::read_u32(&bytes[4..]);
+        let length = u64::from(LittleEndian::read_u32(&bytes[4..]));
         if word / PRESENT % 2 == 0 {
             return None;
         }
@@ -60,28 +59,29 @@ impl Entry {
     pub(crate) fn encode(&self, bytes: &mut [u8])
         requires room { 8 ≤ length bytes.old }
         requires first { self.now.first < 2 ^ 30 }
+        requires short { self.now.info.length < 2 ^ 32 }
         ensures entry { decoded bytes.new ≡ Some self.now }
         ensures others { drop 8 bytes.new ≡ drop 8 bytes.old }
         ensures length { length bytes.new ≡ length bytes.old }
     {
-        let length = self.info.length;
+        let length = self.info.length as u32;
         let read_only = if self.info.read_only { READ_ONLY } else { 0 };
         LittleEndian::write_u32(bytes, PRESENT + read_only + self.first);
         LittleEndian::write_u32(&mut bytes[4..], length);
     }
 
     /// How many pages the file has.
-    pub fn pages(&self) -> u32
+    pub fn pages(&self) -> u64
         ensures { result ≡ pages_of_length self.now.info.length }
     {
-        self.info.length.div_ceil(PAGE_BYTES as u32)
+        self.info.length.div_ceil(PAGE_BYTES)
     }
 
     /// The home page behind the file's last.
     fn end(&self) -> u64
         ensures { result ≡ home_end self.now }
     {
-        u64::from(self.first) + u64::from(self.info.length).div_ceil(PAGE_BYTES)
+        u64::from(self.first) + self.info.length.div_ceil(PAGE_BYTES)
     }
 
     /// Whether both have a home page.
@@ -120,7 +120,7 @@ fn overlaps_any(entries: &[Option<Entry>], entry: &Entry) -> bool
 /// The files of a store, by their numbers.
 #[derive(Debug, Drop)]
 pub(crate) struct Directory {
-    entries: [Option<Entry>; FILES],
+    entries: [Option<Entry>; LISTED_FILES],
     /// No file has a number past the last place, or more bytes than four bytes can say.
     pub ghost numbers: { (f : ℕ) (e : Entry) → get_or entries f None ≡ Some e → f < 64 },
     pub ghost lengths: { (f : ℕ) (e : Entry) → get_or entries f None ≡ Some e → e.info.length < 2 ^ 32 },
@@ -132,11 +132,11 @@ impl Directory {
     /// The directory that a sector holds, for a store of so many home pages. It fails exactly where the sector is bad.
     pub(crate) fn from_sector(sector: &[u8; 512], homes: u64) -> Result<Directory, BadDirectory>
         ensures entries { IfOk result (λ directory. (f : ℕ) → entry_of directory f ≡ entry_in sector.now f) }
-        ensures good { OnOk result (AreGood homes sector.now file_limit) }
+        ensures good { OnOk result (AreGood homes sector.now listed_files) }
         ensures bad { OnErr result (IsBadDirectory homes sector.now) }
     {
-        let mut entries = [None; FILES];
-        for f in 0..FILES {
+        let mut entries = [None; LISTED_FILES];
+        for f in 0..LISTED_FILES {
             entries[f] = Directory::next_entry(sector, homes, &entries[..f])?;
         }
         Ok(Directory { entries })
@@ -149,7 +149,7 @@ impl Directory {
         earlier: &[Option<Entry>],
     ) -> Result<Option<Entry>, BadDirectory>
         requires size { length sector.now ≡ sector_bytes }
-        requires room { length earlier.now < file_limit }
+        requires room { length earlier.now < listed_files }
         requires read { AreEntries sector.now earlier.now (length earlier.now) }
         requires good { AreGood homes sector.now (length earlier.now) }
         ensures next { IfOk result (λ next. IsNextOf homes sector.now (length earlier.now) next) }
@@ -187,7 +187,7 @@ impl Directory {
     /// The entry of a file of any number.
     pub(crate) fn entry(&self, n: usize) -> Option<Entry>
         ensures entry { result ≡ entry_of self.now n }
-        ensures number { IsSome result → n < file_limit }
+        ensures number { IsSome result → n < listed_files }
     {
         *self.entries.get(n)?
     }

@@ -1,11 +1,10 @@
 //! New stores.
 ghost use Rattle.std.specs.Prelude.{◌≡◌, ◌+◌, ◌<◌, ◌≤◌, ◌⊎◌, ℕ, List, Some, OnOk, OnErr, IsErrOf, IsSome, length};
-ghost use Rattle.vm_types.specs.Limits.{file_limit};
 ghost use Rattle.disk_model.specs.Stop.{NamesOnce};
 ghost use Rattle.disk_model.specs.Moments.{Nothing};
 ghost use Rattle.sync_journal.specs.Layout.{first_home_sector, home_count};
 ghost use Rattle.sync_journal.specs.Runs.{RunsOnDevice};
-ghost use Rattle.file_store.specs.Layout.{mark, IsMark, pages_of_length};
+ghost use Rattle.file_store.specs.Layout.{mark, IsMark, pages_of_length, listed_files};
 ghost use Rattle.file_store.specs.Format.{info_of, total_pages, IsUnmarkedStoreOf, HoldsFiles, HoldsSourcePages, HasReader, AreWhole, reader_tells, IsMarkSector, IsLayoutSector, IsHomesBetween, IsUnmarkedSector, HasHead};
 ghost use Rattle.file_store.specs.Formatted.{FormatsStore};
 ghost use Rattle.file_store.specs.Making.{HasFormatCauses, WritesSynced, FillsHomes};
@@ -65,7 +64,7 @@ fn write_unmarked<D: SectorDisk, R: Read>(
     disk: &mut D,
     sources: &mut [FileSource<R>],
 ) -> Result<(), FormatFault>
-    requires files { length sources.old ≤ file_limit }
+    requires files { length sources.old ≤ listed_files }
     requires room { first_home_sector ≤ D.sector_count disk.old }
     requires homes { total_pages sources.old ≤ home_count (D.sector_count disk.old) }
     ensures fills { FillsHomes D.SectorDisk (IsUnmarkedSector (total_pages sources.old)) (HasReader sources.old) (AreWhole R.remaining sources.old (length sources.old)) disk.old disk.new result }

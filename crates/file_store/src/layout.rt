@@ -6,6 +6,9 @@ pub const MARK_SECTOR: u64 = 0;
 /// The directory of layouts 1 and 2.
 pub const DIRECTORY_SECTOR: u64 = 1;
 
+/// The most files of a store of layouts 1 to 3: the directory has an entry of eight bytes for each.
+pub const LISTED_FILES: usize = 64;
+
 /// The kind of layouts 3 and 4.
 pub const KIND_SECTOR: u64 = 1;
 

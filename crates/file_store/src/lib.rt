@@ -36,7 +36,7 @@ mod version;
 pub use directory::Entry;
 pub use faults::{FormatFault, OpenFault, UpgradeFault};
 pub use formatting::format;
-pub use layout::{DIRECTORY_SECTOR, KIND_SECTOR, MARK_SECTOR};
+pub use layout::{DIRECTORY_SECTOR, KIND_SECTOR, LISTED_FILES, MARK_SECTOR};
 pub use old_store::OldStore;
 pub use opening::stops_in_a_row;
 pub use pages::trim;

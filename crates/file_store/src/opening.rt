@@ -1,6 +1,6 @@
 //! A store found on a device.
 ghost use Rattle.std.specs.Prelude.{◌≡◌, ◌≤◌, ℕ, IfOk, IfErr, MatchResult, OnOk};
-ghost use Rattle.vm_types.specs.Limits.{file_limit};
+ghost use Rattle.file_store.specs.Layout.{listed_files};
 ghost use Rattle.disk_model.specs.Stop.{Image, NamesOnce};
 ghost use Rattle.file_store.specs.Directory.{IsBadDirectory, AreGood};
 ghost use Rattle.file_store.specs.Opened.{LooksFor, IsDirectoryIn, IsRefusedFor, Mounts, OpensFrom, RefusesToOpen};
@@ -70,7 +70,7 @@ fn read_directory<D: SectorDisk>(
     ensures looks { LooksFor D.SectorDisk (IsBadDirectory (home_pages_of version (D.sector_count disk.old)) (D.content disk.old (directory_of version))) disk.old disk.new result }
     ensures once { NamesOnce (λ k. k ≡ directory_of version) (D.asked disk.old) (D.asked disk.new) }
     ensures found { IfOk result (λ directory. IsDirectoryIn D.SectorDisk version disk.old disk.new sector.new directory) }
-    ensures good { D.keeps_model disk.new → OnOk result (AreGood (home_pages_of version (D.sector_count disk.old)) (D.content disk.old (directory_of version)) file_limit) }
+    ensures good { D.keeps_model disk.new → OnOk result (AreGood (home_pages_of version (D.sector_count disk.old)) (D.content disk.old (directory_of version)) listed_files) }
 {
     disk.read(directory_sector(version), sector)?;
     let directory = Directory::from_sector(sector, version.home_count(disk.sectors()))?;

@@ -1,18 +1,17 @@
 //! What files are made of.
 ghost use Rattle.std.specs.Prelude.{◌≡◌, ◌-◌, ◌*◌, ◌≤◌, ◌^◌, ◌↔◌, min, length, replicate, OnOk, OnErr, IsErrOf, IsSome, IsTrue};
-ghost use Rattle.vm_types.specs.Limits.{file_limit};
 ghost use Rattle.disk_model.specs.Sectors.{sector_bytes};
 ghost use Rattle.sync_journal.specs.Layout.{home_sector};
-ghost use Rattle.file_store.specs.Layout.{pages_of_length};
+ghost use Rattle.file_store.specs.Layout.{pages_of_length, listed_files};
 ghost use Rattle.file_store.specs.Format.{info_of, total_pages, IsPageRead, IsTooLarge, IsDirectoryOf};
 
 use crate::directory::Entry;
 use crate::faults::FormatFault;
-use crate::layout::PAGE_BYTES;
+use crate::layout::{LISTED_FILES, PAGE_BYTES};
 use disk_model::SECTOR_BYTES;
 use std::io::Read;
 use sync_journal::{FIRST_HOME, MAX_HOMES, home_count};
-use vm_types::{FILES, FileInfo};
+use vm_types::FileInfo;
 
 /// A file of a new store: its length in bytes, whether it may only be read, and the reader whose first `length` bytes
 /// it has. Without a reader it has `length` zero bytes.
@@ -64,7 +63,7 @@ impl<R: Read> FileSource<R> {
 pub(crate) fn is_too_large<R>(sources: &[FileSource<R>], sectors: u64) -> bool
     ensures { IsTrue result ↔ IsTooLarge sectors sources.now }
 {
-    sources.len() > FILES || sectors < FIRST_HOME || pages_of(sources) > home_count(sectors)
+    sources.len() > LISTED_FILES || sectors < FIRST_HOME || pages_of(sources) > home_count(sectors)
 }
 
 /// How many bytes an image of these files has, whose homes end where it ends: `512 * (8195 + 8 H)` for their `H` pages in
@@ -89,7 +88,7 @@ pub fn pages_of<R>(sources: &[FileSource<R>]) -> u64
 
 /// The directory sector of these files, whose homes follow one another.
 pub(crate) fn directory_of<R>(sources: &[FileSource<R>]) -> [u8; SECTOR_BYTES]
-    requires files { length sources.now ≤ file_limit }
+    requires files { length sources.now ≤ listed_files }
     requires homes { total_pages sources.now ≤ 2 ^ 30 }
     ensures { IsDirectoryOf sources.now result }
 {
@@ -98,7 +97,7 @@ pub(crate) fn directory_of<R>(sources: &[FileSource<R>]) -> [u8; SECTOR_BYTES]
     for f in 0..sources.len() {
         let source = &sources[f];
         let info = FileInfo {
-            length: source.length,
+            length: u64::from(source.length),
             read_only: source.read_only,
         };
         // Only an empty file's first home can be the one behind the last that a number of 30 bits names.

@@ -1,6 +1,6 @@
 //! An open store.
 ghost use Rattle.std.specs.Prelude.{◌≡◌, ◌<◌, IsSome};
-ghost use Rattle.vm_types.specs.Limits.{file_limit};
+ghost use Rattle.file_store.specs.Layout.{listed_files};
 ghost use Rattle.file_store.specs.Standing.{IsPageOf};
 ghost use Rattle.file_store.specs.Store.{files_of, IsReadyStore, ReadsFilePage};
 
@@ -20,7 +20,7 @@ pub struct FileStore<D> {
 
 impl<D: SectorDisk> FileStore<D> {
     /// The facts of file `n`, or none where the store has no such file.
-    pub fn file(&self, n: u8) -> Option<FileInfo>
+    pub fn file(&self, n: u16) -> Option<FileInfo>
         ensures { result ≡ files_of self.now n }
     {
         self.directory.entry(usize::from(n)).map(|entry| entry.info)
@@ -29,7 +29,7 @@ impl<D: SectorDisk> FileStore<D> {
     /// The facts of the file of any number, or none where the store has no such file.
     pub fn info(&self, n: u64) -> Option<FileInfo>
         ensures info { result ≡ files_of self.now n }
-        ensures number { IsSome result → n < file_limit }
+        ensures number { IsSome result → n < listed_files }
     {
         self.directory.entry(n as usize).map(|entry| entry.info)
     }

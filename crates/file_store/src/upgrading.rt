@@ -1,6 +1,5 @@
 //! Stores of layout 1, made anew in layout 2.
 ghost use Rattle.std.specs.Prelude.{◌≡◌, ◌<◌, ◌≤◌, ◌⊎◌, ℕ, length, Some, OnOk, IsErrOf};
-ghost use Rattle.vm_types.specs.Limits.{file_limit};
 ghost use Rattle.disk_model.specs.Moments.{AsksOnly, Nothing};
 ghost use Rattle.sync_journal.specs.Layout.{first_home_sector, home_count};
 ghost use Rattle.sync_journal.specs.OldJournal.{old_homes, old_sizes};
@@ -10,7 +9,7 @@ ghost use Rattle.sync_journal.specs.Runs.{RunsOnDevice};
 ghost use Rattle.file_store.specs.declared.directory.Entry.{Entry as AnEntry};
 ghost use Rattle.file_store.specs.Directory.{home_end};
 ghost use Rattle.file_store.specs.Format.{IsMarkSector};
-ghost use Rattle.file_store.specs.Layout.{IsMark, pages_of_length};
+ghost use Rattle.file_store.specs.Layout.{IsMark, pages_of_length, listed_files};
 ghost use Rattle.file_store.specs.Store.{entry_of};
 ghost use Rattle.file_store.specs.Upgrade.{IsOldStore, IsFileSector, IsEntrySector, IsFilesSector, IsCopiedSector, IsOldPage, IsOldEntry, IsOldFile, HoldsOldPages, HoldsOldFiles, IsUnmarkedUpgrade};
 ghost use Rattle.file_store.specs.Upgraded.{HasCheckCauses, HasRoomFor, IsCopiable, CopiesPages, UpgradesStore};
@@ -18,12 +17,11 @@ ghost use Rattle.file_store.specs.Upgraded.{HasCheckCauses, HasRoomFor, IsCopiab
 use crate::directory::{Directory, Entry};
 use crate::faults::UpgradeFault;
 use crate::formatting::{write_layout, write_mark};
-use crate::layout::MARK_SECTOR;
+use crate::layout::{LISTED_FILES, MARK_SECTOR};
 use crate::old_store::OldStore;
 use crate::version::is_any_mark;
 use disk_model::{SECTOR_BYTES, SectorDisk};
 use sync_journal::{FIRST_HOME, PAGE_SECTORS, Version, home_count, write_page};
-use vm_types::FILES;
 
 /// Makes a store of layout 2 on `new` that stands for what the store of layout 1 on `old` stands for. It has the same directory, byte for byte, and each page of each file in the same home, with
 /// zeros past its file's end. `old` is only read. As in a new store, all but the mark is written and synced before the mark
@@ -90,9 +88,9 @@ fn copy_files<D: SectorDisk, E: SectorDisk>(
 ) -> Result<(), UpgradeFault>
     requires { IsCopiable D.SectorDisk store.now old.old (E.sector_count new.old) }
     ensures copies { CopiesPages D.SectorDisk E.SectorDisk (IsOldFile One (D.content old.old)) (IsFilesSector (entry_of store.now.directory)) old.old old.new new.old new.new result }
-    ensures files { D.keeps_model old.new → E.keeps_model new.new → OnOk result (HoldsOldFiles (D.content old.old) file_limit (E.content new.new)) }
+    ensures files { D.keeps_model old.new → E.keeps_model new.new → OnOk result (HoldsOldFiles (D.content old.old) listed_files (E.content new.new)) }
 {
-    for f in 0..FILES {
+    for f in 0..LISTED_FILES {
         copy_entry(store, f, old, new)?;
     }
     Ok(())
@@ -131,7 +129,7 @@ fn copy_file<D: SectorDisk, E: SectorDisk>(
     ensures copies { CopiesPages D.SectorDisk E.SectorDisk (IsOldPage One (D.content old.old) entry (pages_of_length entry.info.length)) (IsFileSector entry) old.old old.new new.old new.new result }
     ensures pages { D.keeps_model old.new → E.keeps_model new.new → OnOk result (HoldsOldPages (D.content old.old) entry (pages_of_length entry.info.length) (E.content new.new)) }
 {
-    for k in 0..entry.pages() {
+    for k in 0..entry.pages() as u32 {
         let mut page = [0; 4096];
         store.read_page(old, entry, k, &mut page)?;
         write_page(

@@ -59,12 +59,12 @@ impl Flat {
             common: Vec::new(alloc),
         };
         for (file, length) in lengths.iter().enumerate() {
-            flat.add_file((file % 64) as u8, *length)?;
+            flat.add_file((file % 64) as u16, *length)?;
         }
         Ok(flat)
     }
 
-    fn add_file(&mut self, file: u8, length: u32) -> Result<(), AllocError> {
+    fn add_file(&mut self, file: u16, length: u32) -> Result<(), AllocError> {
         for page in 0..length.div_ceil(4096) {
             let key = PageKey::File(FilePage { file, page });
             let inside = length.saturating_sub(page.saturating_mul(4096)).min(4096);

@@ -90,7 +90,7 @@ pub(crate) fn behind(backing: Backing) -> Option<PageKey> {
 /// The page of a file that lies so many pages behind an offset.
 fn file_page(file: u64, offset: u64, page: u64) -> FilePage {
     FilePage {
-        file: (file % 64) as u8,
+        file: (file % 64) as u16,
         page: ((offset / 4096).wrapping_add(page) % (1 << 32)) as u32,
     }
 }

@@ -47,8 +47,8 @@ module _ (mode : ℕ) where
   copies_alike views views' touched touched' stored stored' same same' same'' =
       let a = sum-below (λ q. count_below (λ page. has_own (views' q page)) (user_end mode)) (λ q. count_below (λ page. has_own (views q page)) (user_end mode)) 65 65 (omega arith)
       (λ q ne. count-same (λ page. has_own (views' q page)) (λ page. has_own (views q page)) (user_end mode) (same q)) in
-      let b = sum-below (λ f. count_below (touched' f) (2 ^ 20)) (λ f. count_below (touched f) (2 ^ 20)) 64 64 (omega arith)
-      (λ f ne. count-same (touched' f) (touched f) (2 ^ 20) (same' f)) in
+      let b = sum-below (λ f. count_below (touched' f) (2 ^ 30)) (λ f. count_below (touched f) (2 ^ 30)) 4096 4096 (omega arith)
+      (λ f ne. count-same (touched' f) (touched f) (2 ^ 30) (same' f)) in
       let c = sum-below (λ o. count_below (stored' o) object_page_limit) (λ o. count_below (stored o) object_page_limit) object_limit object_limit (omega arith)
       (λ o ne. count-same (stored' o) (stored o) object_page_limit (same'' o)) in
       omega (arith, a, b, c)

@@ -1,54 +1,52 @@
 -- What lives leave.
 use Rattle.{std.proofs.Common.{ℕ, ◌≡◌, ◌≤◌, inl, inr, ⊎_elim, List, [], ◌∷◌, ◌++◌, length, refl, sym, ap, ◌∙◌, subst, arith}, disk_model.specs.{Moments.{LeavesOnly}, Stop.{Image, MayLeave}, declared.sector_disk.SectorDisk.{Ghosts}}}
-use Rattle.{stores.specs.Images.{most_pages, SaysMostOf, StandsAs, StandsFor}, vm_types.specs.{Files.{Files}, Prefix.{Event, acknowledged, after_msyncs, IsPrefixHolding}, State.{State}, View.{Pages}, declared.command.Command.{Command}}}
+use Rattle.{stores.specs.Images.{most_pages, SaysMostOf, StandsAs, StandsForContents}, vm_types.specs.{Files.{Contents}, Prefix.{Event, acknowledged, after_msyncs, IsPrefixHolding}, State.{State}, declared.command.Command.{Command}}}
 use Rattle.{vm_types.specs.declared.reply.Reply.{Reply}, machine.specs.{Boot.{Boots}, Chain.{Chain, Runs, after}, Engine.{StandsForSome}, Machine.{store_of}, declared.machine.Machine.{Machine}}, lives.proofs.Agreeing.{agree_msyncs}}
-use Rattle.lives.{proofs.Agreeing.{same_files, same_pages, stands_for_same}, specs.Lives.{Life, IsLeftBy, StopsEarly, StopsLater, Lives, LeftInLives, HoldsLives, RanSince}}
+use Rattle.lives.{proofs.Agreeing.{same_contents, stands_for_same}, specs.Lives.{Life, IsLeftBy, StopsEarly, StopsLater, Lives, LeftInLives, HoldsLives, RanSince}}
 
 module _ {D E : Type 0} (g : Ghosts D) (h : Ghosts E) where
-  stops_early : (sectors : ℕ) (files : Files) (before : Pages) (life : Life) (first last : Image) → StandsFor sectors files before first
-      → StopsEarly g h sectors first life last → StandsForSome sectors files (IsPrefixHolding before life.events life.answered) last
-  stops_early sectors files before life first last stands l =
+  stops_early : (sectors : ℕ) (before : Contents) (life : Life) (first last : Image) → StandsForContents sectors before first
+      → StopsEarly g h sectors first life last → StandsForSome sectors (IsPrefixHolding before life.events life.answered) last
+  stops_early sectors before life first last stands l =
       let still : StandsAs sectors first last =
       subst (λ n. StandsAs n first last) l.opens.size
       (subst (λ held. StandsAs (g.sector_count l.old) held last) l.opens.held (l.opens.stands.each last l.left)) in
       let holds : acknowledged life.events life.answered ≤ 0 = subst (λ (es : List Event). acknowledged es life.answered ≤ 0) (sym l.none) (omega arith) in
       let same : before ≡ after_msyncs before life.events 0 = subst (λ (es : List Event). before ≡ after_msyncs before es 0) (sym l.none) refl in
-      (before, record { i = 0; holds = holds; same = same }, still files before stands)
+      (before, record { i = 0; holds = holds; same = same }, still before.files before.pages stands)
 
-  stops_later : (sectors : ℕ) (files : Files) (before : Pages) (life : Life) (first last : Image) → StandsFor sectors files before first
-      → StopsLater g h sectors first life last → StandsForSome sectors files (IsPrefixHolding before life.events life.answered) last
-  stops_later sectors files before life first last stands l =
-      let s = l.boots.state in
+  stops_later : (sectors : ℕ) (before : Contents) (life : Life) (first last : Image) → StandsForContents sectors before first
+      → StopsLater g h sectors first life last → StandsForSome sectors (IsPrefixHolding before life.events life.answered) last
+  stops_later sectors before life first last stands l =
+      let durable = l.boots.state.durable in
       let events = l.runs.events in
-      let booted : StandsFor sectors s.files s.durable first =
-      subst (λ (n : ℕ). StandsFor n s.files s.durable first) l.size
-      (subst (λ (held : Image). StandsFor (g.sector_count l.store) s.files s.durable held) l.held (l.boots.stands l.kept)) in
-      let left : StandsForSome sectors s.files (IsPrefixHolding s.durable events life.answered) last =
-      subst (λ (n : ℕ). StandsForSome n s.files (IsPrefixHolding s.durable events life.answered) last) (l.same_size ∙ l.size)
+      let booted : StandsForContents sectors durable first =
+      subst (λ (n : ℕ). StandsForContents n durable first) l.size
+      (subst (λ (held : Image). StandsForContents (g.sector_count l.store) durable held) l.held (l.boots.stands l.kept)) in
+      let left : StandsForSome sectors (IsPrefixHolding durable events life.answered) last =
+      subst (λ (n : ℕ). StandsForSome n (IsPrefixHolding durable events life.answered) last) (l.same_size ∙ l.size)
       (l.runs.prefixes l.boots.start.running l.keeps life.answered last l.left) in
       let i = left.1.i in
-      let is : StandsFor sectors s.files (after_msyncs s.durable events i) last =
-      subst (λ (pages : Pages). StandsFor sectors s.files pages last) left.1.same left.2 in
-      let agree = agree_msyncs files events i s.durable before (same_pages sectors s.files files s.durable before first booted stands) in
-      let moved : StandsFor sectors files (after_msyncs before events i) last =
-      stands_for_same sectors s.files files (after_msyncs s.durable events i) (after_msyncs before events i) last
-      (same_files sectors s.files files s.durable before first booted stands) agree is in
+      let is : StandsForContents sectors (after_msyncs durable events i) last =
+      subst (λ (contents : Contents). StandsForContents sectors contents last) left.1.same left.2 in
+      let agree = agree_msyncs events i durable before (same_contents sectors durable before first booted stands) in
+      let moved = stands_for_same sectors (after_msyncs durable events i) (after_msyncs before events i) last agree is in
       let holds : IsPrefixHolding before events life.answered (after_msyncs before events i) = record { i = i; holds = left.1.holds; same = refl } in
       (after_msyncs before events i, subst (λ (es : List Event). IsPrefixHolding before es life.answered (after_msyncs before events i)) (sym l.events) holds, moved)
 
   -- one life
-  pub one_life : (sectors : ℕ) (files : Files) (before : Pages) (life : Life) (first last : Image) → StandsFor sectors files before first
-      → Lives g h sectors first life last → StandsForSome sectors files (IsPrefixHolding before life.events life.answered) last
-  one_life sectors files before life first last stands lived =
-      ⊎_elim (λ l. stops_early sectors files before life first last stands l) (λ l. stops_later sectors files before life first last stands l) lived
+  pub one_life : (sectors : ℕ) (before : Contents) (life : Life) (first last : Image) → StandsForContents sectors before first
+      → Lives g h sectors first life last → StandsForSome sectors (IsPrefixHolding before life.events life.answered) last
+  one_life sectors before life first last stands lived =
+      ⊎_elim (λ l. stops_early sectors before life first last stands l) (λ l. stops_later sectors before life first last stands l) lived
 
   -- any number of them
-  pub lives_leave : (sectors : ℕ) (files : Files) (before : Pages) (lives : List Life) (first last : Image) → StandsFor sectors files before first
-      → LeftInLives g h sectors lives first last → StandsForSome sectors files (IsLeftBy before lives) last
-  lives_leave sectors files before [] first last stands row = (before, refl, subst (StandsFor sectors files before) (sym row) stands)
-  lives_leave sectors files before (life ∷ lives) first last stands row =
-      let one = one_life sectors files before life first row.0 stands row.1 in
-      let rest = lives_leave sectors files one.0 lives row.0 last one.2 row.2 in
+  pub lives_leave : (sectors : ℕ) (before : Contents) (lives : List Life) (first last : Image) → StandsForContents sectors before first
+      → LeftInLives g h sectors lives first last → StandsForSome sectors (IsLeftBy before lives) last
+  lives_leave sectors before [] first last stands row = (before, refl, subst (StandsForContents sectors before) (sym row) stands)
+  lives_leave sectors before (life ∷ lives) first last stands row =
+      let one = one_life sectors before life first row.0 stands row.1 in
+      let rest = lives_leave sectors one.0 lives row.0 last one.2 row.2 in
       (rest.0, (one.0, one.1, rest.1), rest.2)
 
   -- the last image says the pages of an msync that the first says: of one life,
@@ -75,13 +73,13 @@ module _ {D E : Type 0} (g : Ghosts D) (h : Ghosts E) where
   more_lives sectors [] life first image last row lived = (last, subst (λ (i : Image). Lives g h sectors i life last) row lived, refl)
   more_lives sectors (one ∷ lives) life first image last row lived = (row.0, row.1, more_lives sectors lives life row.0 image last row.2 lived)
 
-  pub goes_on : (files : Files) (before : Pages) (lives : List Life) (life : Life) (store new : D) → (holds : HoldsLives g h files before lives store)
+  pub goes_on : (before : Contents) (lives : List Life) (life : Life) (store new : D) → (holds : HoldsLives g h before lives store)
       → g.sector_count new ≡ g.sector_count store → Lives g h (g.sector_count store) (g.content store) life (g.content new)
-      → (more : HoldsLives g h files before (lives ++ life ∷ []) new) × (more.first ≡ holds.first)
-  goes_on files before lives life store new holds size lived = (
+      → (more : HoldsLives g h before (lives ++ life ∷ []) new) × (more.first ≡ holds.first)
+  goes_on before lives life store new holds size lived = (
     record {
       first = holds.first;
-      stands = subst (λ (n : ℕ). StandsFor n files before holds.first) (sym size) holds.stands;
+      stands = subst (λ (n : ℕ). StandsForContents n before holds.first) (sym size) holds.stands;
       lived = subst (λ (n : ℕ). LeftInLives g h n (lives ++ life ∷ []) holds.first (g.content new)) (sym size)
           (more_lives (g.sector_count store) lives life holds.first (g.content store) (g.content new) holds.lived lived);
     },
@@ -89,9 +87,9 @@ module _ {D E : Type 0} (g : Ghosts D) (h : Ghosts E) where
   )
 
   -- what a device holds
-  pub still_stands : (files : Files) (before : Pages) (lives : List Life) (store : D) → HoldsLives g h files before lives store
-      → StandsForSome (g.sector_count store) files (IsLeftBy before lives) (g.content store)
-  still_stands files before lives store holds = lives_leave (g.sector_count store) files before lives holds.first (g.content store) holds.stands holds.lived
+  pub still_stands : (before : Contents) (lives : List Life) (store : D) → HoldsLives g h before lives store
+      → StandsForSome (g.sector_count store) (IsLeftBy before lives) (g.content store)
+  still_stands before lives store holds = lives_leave (g.sector_count store) before lives holds.first (g.content store) holds.stands holds.lived
 
   -- a start that a stop ends
   pub early_life : (store new : D) → g.keeps_model new → ((k : ℕ) → g.unsynced store k → ⊥) → LeavesOnly g store new (StandsAs (g.sector_count store) (g.content store))

@@ -34,16 +34,16 @@ none_or P sectors image marked no_kind =
 module _ {R : Type 0} (remaining : R → Option (List ℕ)) (sectors : ℕ) (sources : List (FileSource R)) (image : Image) where
   journal_stands : IsStoreOf remaining sectors sources image → StandsForSources remaining sectors sources image
   journal_stands store = (
-    InFiles.standing_page image,
-    λ f k source page at inside told. store.pages f k source page at inside told,
+    record { files = files_given sources; pages = InFiles.standing_page image },
+    record { files = refl; pages = λ f k source page at inside told. store.pages f k source page at inside told },
     from_kind sectors (files_given sources) (InFiles.standing_page image) image
         (record { layout = store.layout; journal = store.journal; facts = store.facts; same = λ f k inside. refl }),
   )
 
   pool_stands : (blocks : ℕ) → IsPoolStoreOf blocks remaining sectors sources image → StandsForSources remaining sectors sources image
   pool_stands blocks store = (
-    page_in (files_in_pool blocks new_pages (pool_home_count blocks sectors)) image,
-    λ f k source page at inside told. store.pages f k source page at inside told,
+    record { files = files_given sources; pages = page_in (files_in_pool blocks new_pages (pool_home_count blocks sectors)) image },
+    record { files = refl; pages = λ f k source page at inside told. store.pages f k source page at inside told },
     from_pool blocks new_pages (pool_home_count blocks sectors) sectors refl (files_given sources) (page_in (files_in_pool blocks new_pages (pool_home_count blocks sectors)) image) image
         (record { good = store.good; journal = λ bad. bad; facts = store.facts; same = λ f k inside. refl }),
   )

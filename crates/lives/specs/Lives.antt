@@ -3,14 +3,13 @@
 use Rattle.std.specs.Prelude.{ℕ, ◌≡◌, ◌⊎◌, List, [], ◌∷◌, length}
 use Rattle.disk_model.specs.Stop.{Image}
 use Rattle.disk_model.specs.declared.sector_disk.SectorDisk.{Ghosts}
-use Rattle.{file_store.specs.Standing.{IsPageOf}, stores.specs.Images.{StandsFor}}
+use Rattle.{file_store.specs.Standing.{IsPageOf}, stores.specs.Images.{StandsForContents}}
 use Rattle.stores.specs.Opened.{Opens}
 use Rattle.vm_types.specs.declared.command.Command.{Command}
 use Rattle.vm_types.specs.declared.reply.Reply.{Reply}
-use Rattle.vm_types.specs.Files.{Files}
+use Rattle.vm_types.specs.Files.{Contents}
 use Rattle.vm_types.specs.Prefix.{Event, IsPrefixHolding}
 use Rattle.vm_types.specs.State.{State}
-use Rattle.vm_types.specs.View.{Pages}
 use Rattle.machine.specs.declared.boot.BootFault.{BootFault}
 use Rattle.machine.specs.declared.boot.BootFault.TheVariants.{BadLayout, BadJournal}
 use Rattle.machine.specs.Boot.{Boots}
@@ -25,16 +24,16 @@ pub record Life : Type 0 where
   -- how many of them were answered before the stop that ended it
   pub answered : ℕ
 
--- These pages are what the lives left, one after another: of each a first part of its msyncs, each whole, with every one that it
+-- The files hold what the lives left, one after another: of each a first part of its msyncs, each whole, with every one that it
 -- acknowledged before its stop.
-abbrev pub IsLeftBy : Pages → List Life → Pages → Type 0
-IsLeftBy before [] pages = pages ≡ before
-IsLeftBy before (life ∷ lives) pages = (between : Pages) × IsPrefixHolding before life.events life.answered between × IsLeftBy between lives pages
+abbrev pub IsLeftBy : Contents → List Life → Contents → Type 0
+IsLeftBy before [] contents = contents ≡ before
+IsLeftBy before (life ∷ lives) contents = (between : Contents) × IsPrefixHolding before life.events life.answered between × IsLeftBy between lives contents
 
 -- The state has these files, all mappings see these pages of them, and an msync takes so many pages.
-pub record IsAtFirst (files : Files) (pages : Pages) (taken : ℕ) (s : State) : Type 0 where
-  pub facts : (f : ℕ) → s.files f ≡ files f
-  pub seen : (f k : ℕ) → IsPageOf files f k → s.volatile f k ≡ pages f k
+pub record IsAtFirst (contents : Contents) (taken : ℕ) (s : State) : Type 0 where
+  pub facts : (f : ℕ) → s.files f ≡ contents.files f
+  pub seen : (f k : ℕ) → IsPageOf contents.files f k → s.volatile f k ≡ contents.pages f k
   pub most : s.most ≡ taken
 
 -- two lives with one command each, the second of which was stopped in its own
@@ -88,10 +87,10 @@ module _ {D E : Type 0} (g : Ghosts D) (h : Ghosts E) where
   LeftInLives sectors [] first last = last ≡ first
   LeftInLives sectors (life ∷ lives) first last = (image : Image) × Lives sectors first life image × LeftInLives sectors lives image last
 
-  -- The device holds what these lives left of a store that stood for these files, with these bytes in their pages.
-  pub record HoldsLives (files : Files) (before : Pages) (lives : List Life) (store : D) : Type 0 where
+  -- The device holds what these lives left of a store that stood for these contents.
+  pub record HoldsLives (before : Contents) (lives : List Life) (store : D) : Type 0 where
     pub first : Image
-    pub stands : StandsFor (g.sector_count store) files before first
+    pub stands : StandsForContents (g.sector_count store) before first
     pub lived : LeftInLives (g.sector_count store) lives first (g.content store)
 
   -- From this store a machine was booted and ran these commands to the new one.
@@ -119,5 +118,5 @@ module _ {D E : Type 0} (g : Ghosts D) (h : Ghosts E) where
     -- a stop meanwhile ends a life of no command, where nothing was unsynced;
     pub failed : g.keeps_model new → ((k : ℕ) → g.unsynced store k → ⊥) → FailedSince store new
     -- and on what lives left of a store, or one that has had none, the fault is neither `BadLayout` nor `BadJournal`.
-    pub good_layout : g.keeps_model new → (files : Files) (before : Pages) (lives : List Life) → HoldsLives files before lives store → fault ≡ BadLayout → ⊥
-    pub good_journal : g.keeps_model new → (files : Files) (before : Pages) (lives : List Life) → HoldsLives files before lives store → fault ≡ BadJournal → ⊥
+    pub good_layout : g.keeps_model new → (before : Contents) (lives : List Life) → HoldsLives before lives store → fault ≡ BadLayout → ⊥
+    pub good_journal : g.keeps_model new → (before : Contents) (lives : List Life) → HoldsLives before lives store → fault ≡ BadJournal → ⊥

@@ -11,7 +11,7 @@ use Rattle.stores.specs.declared.new_stores.NewStore.TheVariants.{Journal, Pool}
 use Rattle.upgrades.specs.NewPool as ToPool
 use Rattle.upgrades.specs.Old as OfTwoOrThree
 use Rattle.vm_types.specs.declared.file.FileInfo.{FileInfo}
-use Rattle.vm_types.specs.Files.{Files}
+use Rattle.vm_types.specs.Files.{Files, Contents}
 use Rattle.vm_types.specs.View.{Pages}
 use Rattle.lives.specs.Lives.{Life, LeftInLives}
 
@@ -48,16 +48,16 @@ abbrev pub IsUpgradeOrNone : NewStore → ℕ → ℕ → Image → Image → Ty
 IsUpgradeOrNone Journal old_sectors sectors old image = IsUpgradeIfMarked old_sectors sectors old image
 IsUpgradeOrNone (Pool blocks) old_sectors sectors old image = ToPool.IsUpgradeIfMarked blocks old_sectors sectors old image
 
--- A store of an older layout stood for these files, with these bytes in their pages, an upgrade made it anew on so many sectors, and this
--- image is what lives of the new one left.
-pub record IsUpgradedStore {D E : Type 0} (g : Ghosts D) (h : Ghosts E) (sectors : ℕ) (files : Files) (before : Pages) (lives : List Life)
+-- A store of an older layout stood for these contents, an upgrade made it anew on so many sectors, and this image is what lives of the new one
+-- left.
+pub record IsUpgradedStore {D E : Type 0} (g : Ghosts D) (h : Ghosts E) (sectors : ℕ) (before : Contents) (lives : List Life)
     (image : Image) : Type 0 where
   -- the layout of the new store
   pub store : NewStore
   -- the old one
   pub old_sectors : ℕ
   pub old : Image
-  pub stood : StoodFor store old_sectors files before old
+  pub stood : StoodFor store old_sectors before.files before.pages old
   -- the new one
   pub first : Image
   pub made : IsUpgradeBy store old_sectors sectors old first

@@ -1,8 +1,7 @@
 //! Laws of stores and of their lives. The functions do nothing: each one's contract is the law.
 ghost use Rattle.std.specs.Prelude.{◌≡◌, ◌⊎◌, ◌↔◌, true, false, ℕ, List, [], ◌∷◌, ◌++◌, Option};
 ghost use Rattle.disk_model.specs.Stop.{Image};
-ghost use Rattle.file_store.specs.Format.{files_given};
-ghost use Rattle.stores.specs.Images.{IsBadLayout, IsBadJournal, StandsFor, SaysMostOf, is_pool, most_pages};
+ghost use Rattle.stores.specs.Images.{IsBadLayout, IsBadJournal, StandsFor, StandsForContents, SaysMostOf, is_pool, most_pages};
 ghost use Rattle.file_store.specs.Standing.{IsPageOf};
 ghost use Rattle.file_store.specs.declared.sources.FileSource.{FileSource};
 ghost use Rattle.stores.specs.NewStores.{IsNewOrNone, IsNewStore};
@@ -10,7 +9,7 @@ ghost use Rattle.stores.specs.declared.new_stores.NewStore.{NewStore};
 ghost use Rattle.stores.specs.declared.new_stores.NewStore.TheVariants.{Pool};
 ghost use Rattle.vm_types.specs.declared.command.Command.{Command};
 ghost use Rattle.vm_types.specs.declared.reply.Reply.{Reply};
-ghost use Rattle.vm_types.specs.Files.{Files};
+ghost use Rattle.vm_types.specs.Files.{Files, Contents};
 ghost use Rattle.vm_types.specs.Prefix.{Event, is_msync, is_done, after_event};
 ghost use Rattle.vm_types.specs.Run.{Run};
 ghost use Rattle.vm_types.specs.State.{State};
@@ -26,7 +25,7 @@ ghost use Rattle.runner.specs.declared.engine.RunEnd.{RunEnd};
 ghost use Rattle.runner.specs.Starting.{RunsOn};
 ghost use Rattle.runner.specs.Trace.{RunsTrace, Streams};
 ghost use Rattle.lives.specs.Flat.{causes_in};
-ghost use Rattle.lives.specs.Formatted.{AreSourcesBytes, StandsForSources, IsFormattedStore};
+ghost use Rattle.lives.specs.Formatted.{IsOfSources, StandsForSources, IsFormattedStore};
 ghost use Rattle.lives.specs.Hardware.{LivesThrough};
 ghost use Rattle.lives.specs.Lives.{HoldsLives, IsAtFirst, Life, Lives, IsLeftBy, LeftInLives, RanSince, stopped_in_first, stopped_in_second};
 ghost use Rattle.lives.specs.Upgraded.{HasBadOldLayout, HasBadOldJournal, IsUpgradeBy, IsUpgradeOrNone, IsUpgradedStore, StoodFor, old_info, old_page};
@@ -62,24 +61,24 @@ pub fn upgraded_store()
 /// a first part of each life's msyncs made durable, each whole, and all that were acknowledged. Whatever it stood for, an msync may take as many pages of
 /// the last image as of the first.
 pub fn lives_in_a_row<D: SectorDisk, E: SectorDisk>(_store: &D, _swap: &E)
-    ensures stands { (sectors : ℕ) (files : Files) (before : Pages) (lives : List Life) (first last : Image) → StandsFor sectors files before first
-        → LeftInLives D.SectorDisk E.SectorDisk sectors lives first last → StandsForSome sectors files (IsLeftBy before lives) last }
+    ensures stands { (sectors : ℕ) (before : Contents) (lives : List Life) (first last : Image) → StandsForContents sectors before first
+        → LeftInLives D.SectorDisk E.SectorDisk sectors lives first last → StandsForSome sectors (IsLeftBy before lives) last }
     ensures most { (sectors : ℕ) (lives : List Life) (first last : Image) → LeftInLives D.SectorDisk E.SectorDisk sectors lives first last
         → SaysMostOf sectors first last }
 {}
 
 /// Lives go on: what one more life leaves of a device that holds what lives left of a store is what all of them left of it.
 pub fn one_more_life<D: SectorDisk, E: SectorDisk>(_store: &D, _swap: &E)
-    ensures { (files : Files) (before : Pages) (lives : List Life) (life : Life) (store new : D) → (holds : HoldsLives D.SectorDisk E.SectorDisk files before lives store)
+    ensures { (before : Contents) (lives : List Life) (life : Life) (store new : D) → (holds : HoldsLives D.SectorDisk E.SectorDisk before lives store)
         → D.sector_count new ≡ D.sector_count store → Lives D.SectorDisk E.SectorDisk (D.sector_count store) (D.content store) life (D.content new)
-        → (goes_on : HoldsLives D.SectorDisk E.SectorDisk files before (lives ++ life ∷ []) new) × (goes_on.first ≡ holds.first) }
+        → (goes_on : HoldsLives D.SectorDisk E.SectorDisk before (lives ++ life ∷ []) new) × (goes_on.first ≡ holds.first) }
 {}
 
 /// What lives leave of a new store begins with the bytes of the sources, and an msync may take as many pages of it as of the new store.
 pub fn formatted_lives<R: Read, D: SectorDisk, E: SectorDisk>(_reader: &R, _store: &D, _swap: &E)
     ensures stands { (sectors : ℕ) (sources : List (FileSource R)) (lives : List Life) (image : Image)
         → IsFormattedStore R.remaining D.SectorDisk E.SectorDisk sectors sources lives image
-        → (before : Pages) × AreSourcesBytes R.remaining sources before × StandsForSome sectors (files_given sources) (IsLeftBy before lives) image }
+        → (before : Contents) × IsOfSources R.remaining sources before × StandsForSome sectors (IsLeftBy before lives) image }
     ensures most { (sectors : ℕ) (sources : List (FileSource R)) (lives : List Life) (image : Image)
         → (formatted : IsFormattedStore R.remaining D.SectorDisk E.SectorDisk sectors sources lives image) → SaysMostOf sectors formatted.first image }
 {}
@@ -87,27 +86,27 @@ pub fn formatted_lives<R: Read, D: SectorDisk, E: SectorDisk>(_reader: &R, _stor
 /// What lives leave of a store that an upgrade made begins with what the store of an older layout stood for, and an msync may take as many pages of it as of
 /// the one that was made.
 pub fn upgraded_lives<D: SectorDisk, E: SectorDisk>(_store: &D, _swap: &E)
-    ensures stands { (sectors : ℕ) (files : Files) (before : Pages) (lives : List Life) (image : Image)
-        → IsUpgradedStore D.SectorDisk E.SectorDisk sectors files before lives image → StandsForSome sectors files (IsLeftBy before lives) image }
-    ensures most { (sectors : ℕ) (files : Files) (before : Pages) (lives : List Life) (image : Image)
-        → (upgraded : IsUpgradedStore D.SectorDisk E.SectorDisk sectors files before lives image) → SaysMostOf sectors upgraded.first image }
+    ensures stands { (sectors : ℕ) (before : Contents) (lives : List Life) (image : Image)
+        → IsUpgradedStore D.SectorDisk E.SectorDisk sectors before lives image → StandsForSome sectors (IsLeftBy before lives) image }
+    ensures most { (sectors : ℕ) (before : Contents) (lives : List Life) (image : Image)
+        → (upgraded : IsUpgradedStore D.SectorDisk E.SectorDisk sectors before lives image) → SaysMostOf sectors upgraded.first image }
 {}
 
 /// What lives left of a store has a good layout and a good journal, so that no boot and no opening of it returns `BadLayout` or
 /// `BadJournal`, which come only of a bad one.
 pub fn lives_boot<D: SectorDisk, E: SectorDisk>(_store: &D, _swap: &E)
-    ensures layout { (files : Files) (before : Pages) (lives : List Life) (store : D) → HoldsLives D.SectorDisk E.SectorDisk files before lives store
+    ensures layout { (before : Contents) (lives : List Life) (store : D) → HoldsLives D.SectorDisk E.SectorDisk before lives store
         → IsBadLayout (D.sector_count store) (D.content store) → ⊥ }
-    ensures journal { (files : Files) (before : Pages) (lives : List Life) (store : D) → HoldsLives D.SectorDisk E.SectorDisk files before lives store
+    ensures journal { (before : Contents) (lives : List Life) (store : D) → HoldsLives D.SectorDisk E.SectorDisk before lives store
         → IsBadJournal (D.sector_count store) (D.content store) → ⊥ }
 {}
 
 /// A machine that boots on what lives left of a store shows the files that they left: all mappings see these bytes at first. An msync of it takes as many
 /// pages as that store says.
 pub fn boot_after_lives<D: SectorDisk, E: SectorDisk>(_store: &D, _swap: &E)
-    ensures { (files : Files) (before : Pages) (lives : List Life) (store : D) (m : Machine D E)
-        → (holds : HoldsLives D.SectorDisk E.SectorDisk files before lives store) → D.keeps_model (store_of m) → (boots : Boots D.SectorDisk E.SectorDisk store m)
-        → (pages : Pages) × IsLeftBy before lives pages × IsAtFirst files pages (most_pages (D.sector_count store) holds.first) boots.state }
+    ensures { (before : Contents) (lives : List Life) (store : D) (m : Machine D E)
+        → (holds : HoldsLives D.SectorDisk E.SectorDisk before lives store) → D.keeps_model (store_of m) → (boots : Boots D.SectorDisk E.SectorDisk store m)
+        → (contents : Contents) × IsLeftBy before lives contents × IsAtFirst contents (most_pages (D.sector_count store) holds.first) boots.state }
 {}
 
 /// An image stands for one content: its files, and each page of them.
@@ -121,10 +120,10 @@ pub fn one_content()
 /// Two lives with an msync each. Where the first acknowledged its own and the second was stopped in its own, both count, or the first
 /// alone; where the first was stopped in its own, not acknowledged, and the second acknowledged its own, both count, or the second alone.
 pub fn two_lives()
-    ensures second { (before pages : Pages) (a b : Event) → is_msync a.command ≡ true → is_done a.reply ≡ true → is_msync b.command ≡ true
-        → (IsLeftBy before (stopped_in_second a b) pages ↔ ((pages ≡ after_event a before) ⊎ (pages ≡ after_event b (after_event a before)))) }
-    ensures first { (before pages : Pages) (a b : Event) → is_msync a.command ≡ true → is_msync b.command ≡ true → is_done b.reply ≡ true
-        → (IsLeftBy before (stopped_in_first a b) pages ↔ ((pages ≡ after_event b before) ⊎ (pages ≡ after_event b (after_event a before)))) }
+    ensures second { (before contents : Contents) (a b : Event) → is_msync a.command ≡ true → is_done a.reply ≡ true → is_msync b.command ≡ true
+        → (IsLeftBy before (stopped_in_second a b) contents ↔ ((contents ≡ after_event a before) ⊎ (contents ≡ after_event b (after_event a before)))) }
+    ensures first { (before contents : Contents) (a b : Event) → is_msync a.command ≡ true → is_msync b.command ≡ true → is_done b.reply ≡ true
+        → (IsLeftBy before (stopped_in_first a b) contents ↔ ((contents ≡ after_event b before) ⊎ (contents ≡ after_event b (after_event a before)))) }
 {}
 
 /// A trace that was run on a store by `runner::run_on` is a life of it, wherever a stop comes: that of the commands of the lines that

@@ -1,6 +1,6 @@
 -- What a boot leaves, from what is said of the store that it opens.
 use Rattle.vm_types.specs.declared.mode.Levels as Levels
-use Rattle.machine.proofs.Names.{ℕ, ◌+◌, ◌*◌, ◌≡◌, ◌≤◌, ◌⊎◌, inl, inr, ⊎_elim, false, List, Some, None, is_some, [], refl, sym, ap, ◌∙◌, subst, arith, rules, LeavesOnly, Image, MayLeave, Ghosts, started, stays, asks_none, view-none}
+use Rattle.machine.proofs.Names.{ℕ, ◌+◌, ◌*◌, ◌≡◌, ◌≤◌, inl, inr, ⊎_elim, false, List, Some, None, is_some, [], refl, sym, ap, ◌∙◌, subst, arith, rules, LeavesOnly, Image, MayLeave, Ghosts, started, stays, asks_none, view-none}
 use Rattle.machine.proofs.Names.{StandsFor, StandsAs, file_info, standing_page, Home, PageKey, File, Object, State, IsStart, Core, Picture, picture_of, held, ShowsPages, slots_of}
 use Rattle.machine.specs.{Boot.{HasBadFrames, HasBadSlots, BootAccepts, BootLeaves, BootRefuses}, EngineBoot.{EngineBoots}, StoreBoot.{BootsStore, RefusesStore}, declared.boot.{BootFault.{BootFault}, BootFault.TheVariants.{Frames, Slots, OutOfMemory}}}
 use Rattle.msync.specs.Shows.{HasSyncRoom, RoomSize, SaysMost}
@@ -96,7 +96,7 @@ module _ {M : Type 0} {levels : Levels.Ghosts M} {D E : Type 0} (g : Ghosts D) (
     files = files_of m.core.store;
     most = m.sync_room.most;
     volatile = standing_page n image;
-    durable = standing_page n image;
+    durable = record { files = files_of m.core.store; pages = standing_page n image };
     touched = λ file page. false;
     objects = λ object page. None;
     past = [];
@@ -133,9 +133,10 @@ module _ {M : Type 0} {levels : Levels.Ghosts M} {D E : Type 0} (g : Ghosts D) (
       pages = starts_so (g.sector_count entry) (g.content entry) m frames slots fresh;
       running = sym goes;
       past = bare;
+      files = λ f. refl;
       most = refl;
       stands = λ keeps c may. (
-        standing_page (g.sector_count entry) (g.content entry),
+        record { files = files_of m.core.store; pages = standing_page (g.sector_count entry) (g.content entry) },
         refl,
         subst (λ (n : ℕ). StandsFor n (files_of m.core.store) (standing_page (g.sector_count entry) (g.content entry)) c) (sym opened.size)
             (opened.now keeps c may (files_of m.core.store) (standing_page (g.sector_count entry) (g.content entry)) (stands_at_start entry m opened keeps)),
@@ -143,7 +144,16 @@ module _ {M : Type 0} {levels : Levels.Ghosts M} {D E : Type 0} (g : Ghosts D) (
       most_stands = λ keeps c may. subst (λ (n : ℕ). SaysMost n m.sync_room.most c) (sym opened.size) (opened.most_now keeps c may ∙ sym (sized.most ∙ opened.most keeps));
     };
     fresh = subst (λ (n : ℕ). IsStart m.core n (slots_of m.core.swap).total) (sym fresh.fresh.frames) (subst (λ (n : ℕ). IsStart m.core frames n) (sym fresh.slots_free.total) fresh);
-    start = record { live = λ pid. refl; views = λ pid page. refl; same = λ file page. refl; touched = λ file page. refl; objects = λ object page. refl; past = refl; running = refl };
+    start = record {
+      live = λ pid. refl;
+      views = λ pid page. refl;
+      files = λ file. refl;
+      same = λ file page. refl;
+      touched = λ file page. refl;
+      objects = λ object page. refl;
+      past = refl;
+      running = refl;
+    };
     stands = λ keeps. stands_at_start entry m opened keeps;
     most = λ keeps. sized.most ∙ opened.most keeps;
   }

@@ -1,10 +1,10 @@
 -- msync on a machine.
 use Rattle.vm_types.specs.declared.mode.Levels as Levels
 use Rattle.machine.proofs.{Flat.{with_past, OnlyNow, is_running, shows_core, answered, unread, keeps_all}, Names.{ℕ, ◌≡◌, ◌<◌, ◌≤◌, ◌⊎◌, inl, inr, ⊎_elim, Bool, true, false, not, ◌==◌, ◌%◌, ◌/◌, if◌then◌else◌, nat_lt, List}}
-use Rattle.machine.proofs.Names.{Option, Some, None, is_some, refl, sym, ap, ◌∙◌, subst, rules, LeavesOnly, Image, MayLeave, Ghosts, weaker, holds_now, StandsForEither, StandsFor, frame_count, slots_of, UsesDevice, picture_of, ShowsPages}
+use Rattle.machine.proofs.Names.{Option, Some, None, is_some, refl, sym, ap, ◌∙◌, subst, rules, LeavesOnly, Image, MayLeave, Ghosts, weaker, holds_now, StandsForEitherContents, StandsForContents, frame_count, slots_of, UsesDevice, picture_of, ShowsPages}
 use Rattle.machine.proofs.Names.{Core, KeepsRoom, KeepsDevices, is_denial, is_idle, KeepsMemory, GivesBack, Commits, Acknowledged, Failed, Unread, Command, Msync, MsyncMode, Sync, Async, Errno, ESRCH, EIO, EINVAL, ENOMEM, ENOSPC, Stall}
 use Rattle.machine.proofs.Names.{SwapDevice, Reply, Done, Refused, Stalled, pages_from, Ruling, Refuses, Passes, Takes, or_else, row_ruling, msync_ruling, touched_count, committed, is_io_error, may_have_taken, is_covered}
-use Rattle.machine.proofs.Names.{Step, Answers, Fails, Stalls, is_success, State, IsRunning, halted, noted, outcome, msync_outcome, ruling, commit_of, commits, takes, Pages, attrs_of, false_from_ne_true, true_from_ne_false}
+use Rattle.machine.proofs.Names.{Step, Answers, Fails, Stalls, is_success, State, IsRunning, halted, noted, outcome, msync_outcome, ruling, commit_of, commits, takes, Contents, attrs_of, false_from_ne_true, true_from_ne_false}
 use Rattle.machine.{proofs.Steps.{outcome_keeps, commit_takes}, specs.{Engine.{stands_in, MayStand, HoldsIn, StandsForSome, EngineShows, EngineMeets}, declared.engine.Engine.{Engine}}}
 use Rattle.spaces.specs.Calls as Calls
 use Rattle.msync.specs.Shows as Syncing
@@ -49,7 +49,7 @@ never_fails : (s : State) (pid addr len : ℕ) (mode : MsyncMode) → (outcome s
 never_fails s pid addr len mode e = ruled_so s (msync_ruling s pid addr len mode) (msync_refuses s pid addr len mode) e
 
 -- what it returns, where it makes pages durable
-done_of : (s : State) (r : Ruling) (after : Pages) → commit_of s r ≡ Some after → (msync_outcome s r).reply ≡ Done
+done_of : (s : State) (r : Ruling) (after : Contents) → commit_of s r ≡ Some after → (msync_outcome s r).reply ≡ Done
 done_of s (Takes pid first count) after e = refl
 done_of s r after e = absurd (cc)
 
@@ -59,11 +59,11 @@ stays_of s (Takes pid first count) e = absurd (let k : Some (committed s pid fir
 stays_of s r e = (refl, refl)
 
 -- an msync that makes pages durable is not idle, however it ends
-never_idle : (s : State) (pid addr len : ℕ) (mode : MsyncMode) (reply : Reply) (after : Pages) → commits s (Msync pid addr len mode) ≡ Some after
+never_idle : (s : State) (pid addr len : ℕ) (mode : MsyncMode) (reply : Reply) (after : Contents) → commits s (Msync pid addr len mode) ≡ Some after
     → is_denial reply ≡ false → is_idle s (Msync pid addr len mode) reply ≡ true → ⊥
 never_idle s pid addr len mode reply after commit taken idle =
     let asked : (if is_some (Some after) then is_denial reply else true) ≡ true =
-    subst (λ (o : Option Pages). (if is_some o then is_denial reply else true) ≡ true) commit idle in
+    subst (λ (o : Option Contents). (if is_some o then is_denial reply else true) ≡ true) commit idle in
     let never : false ≡ true = sym taken ∙ asked in
     cc
 
@@ -71,7 +71,7 @@ never_idle s pid addr len mode reply after commit taken idle =
 stall_is : (stall : Stall) → Stalled SwapDevice ≡ Stalled stall → SwapDevice ≡ stall
 stall_is stall e = cc
 
-none_or_some : (o : Option Pages) → (o ≡ None) ⊎ ((after : Pages) × (o ≡ Some after))
+none_or_some : (o : Option Contents) → (o ≡ None) ⊎ ((after : Contents) × (o ≡ Some after))
 none_or_some None = inl refl
 none_or_some (Some after) = inr (after, refl)
 
@@ -79,16 +79,16 @@ module _ {D : Type 0} (g : Ghosts D) where
   abbrev pub CountsNow : Type 0
   CountsNow = (d : D) (t : ℕ) (c : Image) → g.keeps_model d → t ≤ g.moment d → MayLeave (g.content d) (g.unsynced d) c → g.left_since d t c
 
-holds_either : (n : ℕ) (s : State) (command : Command) (reply : Reply) (after : Pages) (c : Image) → IsRunning s
+holds_either : (n : ℕ) (s : State) (command : Command) (reply : Reply) (after : Contents) (c : Image) → IsRunning s
     → commits s command ≡ Some after → may_have_taken reply ≡ true
-    → StandsForEither n s.files s.durable after c → StandsForSome n s.files (HoldsIn s command reply) c
+    → StandsForEitherContents n s.durable after c → StandsForSome n (HoldsIn s command reply) c
 holds_either n s command reply after c run commit taken either =
-    ⊎_elim (λ b. (s.durable, inl (subst (λ (o : Option (List Pages)). stands_in o s.durable s.durable) (sym run) refl), b))
+    ⊎_elim (λ b. (s.durable, inl (subst (λ (o : Option (List Contents)). stands_in o s.durable s.durable) (sym run) refl), b))
     (λ a. (after, inr (run, taken, commit_takes s (ruling s command) after commit), a)) either
 
 -- An msync that makes pages durable, on an engine that runs.
 module _ {M : Type 0} {levels : Levels.Ghosts M} {D E : Type 0} (g : Ghosts D) (h : Ghosts E)
-    (old : Engine D E M levels) (core : Core D E M levels) (s : State) (pid addr len : ℕ) (mode : MsyncMode) (reply : Reply) (after : Pages)
+    (old : Engine D E M levels) (core : Core D E M levels) (s : State) (pid addr len : ℕ) (mode : MsyncMode) (reply : Reply) (after : Contents)
     (shows : EngineShows g h old s) (run : IsRunning s) (room : KeepsRoom (picture_of old.core) (picture_of core)) (device : UsesDevice h old.core.swap.pages.disk core.swap.pages.disk)
     (commit : commits s (Msync pid addr len mode) ≡ Some after)
     (made : Commits g h (GivesBack g h old.core core pid addr len) old.core core s after (Msync pid addr len mode) reply) where
@@ -103,14 +103,14 @@ module _ {M : Type 0} {levels : Levels.Ghosts M} {D E : Type 0} (g : Ghosts D) (
 
   -- at every moment the pages are as they were, or as they are to be
   during : may_have_taken reply ≡ true → GivesBack g h old.core core pid addr len → g.keeps_model (disk_of core.store)
-      → LeavesOnly g (disk_of old.core.store) (disk_of core.store) (StandsForSome n s.files (HoldsIn s x reply))
-  during taken back k = weaker g (disk_of old.core.store) (disk_of core.store) (StandsForEither n s.files s.durable after) (StandsForSome n s.files (HoldsIn s x reply))
+      → LeavesOnly g (disk_of old.core.store) (disk_of core.store) (StandsForSome n (HoldsIn s x reply))
+  during taken back k = weaker g (disk_of old.core.store) (disk_of core.store) (StandsForEitherContents n s.durable after) (StandsForSome n (HoldsIn s x reply))
       (λ c either. holds_either n s x reply after c run commit taken either) (made.either k back)
 
   -- what is the same however it ends
   met : (halts : Bool) (t : State) → Step (Calls.causes g h old.core core) s x reply t → EngineShows g h (engine halts) t
       → ((stall : Stall) → reply ≡ Stalled stall → Calls.FallsShort (frame_count core.frames) (slots_of core.swap).total s x stall) → is_denial reply ≡ false
-      → (g.keeps_model (disk_of core.store) → LeavesOnly g (disk_of old.core.store) (disk_of core.store) (StandsForSome n s.files (HoldsIn s x reply)))
+      → (g.keeps_model (disk_of core.store) → LeavesOnly g (disk_of old.core.store) (disk_of core.store) (StandsForSome n (HoldsIn s x reply)))
       → (t : State) × EngineMeets g h old (engine halts) s t x reply
   met halts t step shown capacity taken moments =
       let idle : is_idle s x reply ≡ true → KeepsDevices old.core core = λ e. absurd (never_idle s pid addr len mode reply after commit taken e) in
@@ -128,8 +128,9 @@ module _ {M : Type 0} {levels : Levels.Ghosts M} {D E : Type 0} (g : Ghosts D) (
         pages = with_past (picture_of core) (outcome s x).state _ now.pages;
         running = ap is_some goes_on;
         past = shows.past ∙ sym all.past;
+        files = now.files;
         most = all.most ∙ shows.most;
-        stands = λ k c may. (t.durable, subst (λ (o : Option (List Pages)). stands_in o t.durable t.durable) (sym goes_on) refl, now.stands k c may);
+        stands = λ k c may. (t.durable, subst (λ (o : Option (List Contents)). stands_in o t.durable t.durable) (sym goes_on) refl, now.stands k c may);
         most_stands = now.most_stands;
       })
       (λ stall e. absurd (let never : Done ≡ Stalled stall = sym done ∙ e in cc)) (ap is_denial done) (during (ap may_have_taken done) back)
@@ -146,11 +147,12 @@ module _ {M : Type 0} {levels : Levels.Ghosts M} {D E : Type 0} (g : Ghosts D) (
             (store_same (λ c. ShowsPages c t) (picture_of old.core) (slots_of old.core.swap) (slots_of core.swap) (directory_of old.core.store) (directory_of core.store) memory.slots memory.directory pages);
         running = refl;
         past = shows.past;
+        files = shows.files;
         most = shows.most;
         stands = λ k c may.
-            subst (λ (sectors : ℕ). StandsForSome sectors s.files (MayStand t) c) (sym made.size)
+            subst (λ (sectors : ℕ). StandsForSome sectors (MayStand t) c) (sym made.size)
             (⊎_elim (λ b. (s.durable, inl refl, b)) (λ a. (after, inr (inl refl), a))
-            (holds_now g (disk_of old.core.store) (disk_of core.store) (StandsForEither n s.files s.durable after)
+            (holds_now g (disk_of old.core.store) (disk_of core.store) (StandsForEitherContents n s.durable after)
             (λ m i le ml. counts_now (disk_of core.store) m i k le ml) (made.either k back) c may));
         most_stands = λ k c may.
             subst (λ (sectors : ℕ). SaysMost sectors s.most c) (sym made.size)
@@ -160,24 +162,32 @@ module _ {M : Type 0} {levels : Levels.Ghosts M} {D E : Type 0} (g : Ghosts D) (
 
   -- a slot couldn't be read
   commit_unread : reply ≡ Stalled SwapDevice → h.failures old.core.swap.pages.disk < h.failures core.swap.pages.disk → Syncing.CoreShows g core s
-      → (g.keeps_model (disk_of core.store) → LeavesOnly g (disk_of old.core.store) (disk_of core.store) (StandsFor n s.files s.durable)) → (t : State) × EngineMeets g h old (engine false) s t x reply
+      → (g.keeps_model (disk_of core.store) → LeavesOnly g (disk_of old.core.store) (disk_of core.store) (StandsForContents n s.durable)) → (t : State) × EngineMeets g h old (engine false) s t x reply
   commit_unread stalled grew now only =
-      let durable : stands_in s.ends s.durable s.durable = subst (λ (o : Option (List Pages)). stands_in o s.durable s.durable) (sym run) refl in
+      let durable : stands_in s.ends s.durable s.durable = subst (λ (o : Option (List Contents)). stands_in o s.durable s.durable) (sym run) refl in
       met false s
       (Stalls SwapDevice run
       (record { otherwise = ap is_success (done_of s (ruling s x) after commit); open_to = ap is_some commit; cause = grew }) stalled refl)
-      (record { pages = now.pages; running = ap is_some run; past = shows.past; most = shows.most; stands = λ k c may. (s.durable, durable, now.stands k c may); most_stands = now.most_stands })
+      (record {
+        pages = now.pages;
+        running = ap is_some run;
+        past = shows.past;
+        files = now.files;
+        most = shows.most;
+        stands = λ k c may. (s.durable, durable, now.stands k c may);
+        most_stands = now.most_stands;
+      })
       (λ stall e. subst (Calls.FallsShort (frame_count core.frames) (slots_of core.swap).total s x) (stall_is stall (sym stalled ∙ e)) tt) (ap is_denial stalled)
-      (λ k. weaker g (disk_of old.core.store) (disk_of core.store) (StandsFor n s.files s.durable) (StandsForSome n s.files (HoldsIn s x reply))
+      (λ k. weaker g (disk_of old.core.store) (disk_of core.store) (StandsForContents n s.durable) (StandsForSome n (HoldsIn s x reply))
       (λ c stands. (s.durable, inl durable, stands)) (only k))
 
 module _ {M : Type 0} {levels : Levels.Ghosts M} {D E : Type 0} (g : Ghosts D) (h : Ghosts E) where
   -- what is said of an msync, in a state that memory shows
   pub record Msynced (old core : Core D E M levels) (s : State) (pid addr len : ℕ) (mode : MsyncMode) (reply : Reply) : Type 0 where
     pub passes : commits s (Msync pid addr len mode) ≡ None → (reply ≡ (outcome s (Msync pid addr len mode)).reply) × (core ≡ old)
-    pub commits_so : (after : Pages) → commits s (Msync pid addr len mode) ≡ Some after
+    pub commits_so : (after : Contents) → commits s (Msync pid addr len mode) ≡ Some after
         → Commits g h (GivesBack g h old core pid addr len) old core s after (Msync pid addr len mode) reply
-    pub back : (after : Pages) → commits s (Msync pid addr len mode) ≡ Some after → GivesBack g h old core pid addr len
+    pub back : (after : Contents) → commits s (Msync pid addr len mode) ≡ Some after → GivesBack g h old core pid addr len
 
   -- returning EIO, it halts the machine; returning anything else, it leaves it running
   pub msync_meets : (only_now : OnlyNow g) (counts_now : CountsNow g) (old : Engine D E M levels) (core : Core D E M levels) (stops : Bool) (room : Syncing.RoomSize) (s : State) (pid addr len : ℕ) (mode : MsyncMode)
@@ -200,7 +210,7 @@ module _ {M : Type 0} {levels : Levels.Ghosts M} {D E : Type 0} (g : Ghosts D) (
       let keeps : KeepsDevices old.core core = keeps_all g h old.core core same in
       goes_on (λ e. never_fails s pid addr len mode (sym (told.passes none).0 ∙ e))
       (answered g h only_now old core false old.past s x reply shows live refl stays.1 refl (unread g old.core.store core.store keeps.store) device (λ _. keeps) sizes (Calls.Does (told.passes none).0 pages)))
-      (λ (some : (after : Pages) × (commits s x ≡ Some after)).
+      (λ (some : (after : Contents) × (commits s x ≡ Some after)).
       let made = told.commits_so some.0 some.1 in
       let back = told.back some.0 some.1 in
       elim made.end as (λ _. P stops) [

@@ -17,7 +17,7 @@ module _ {D E : Type 0} (g : Ghosts D) (h : Ghosts E) where
     pub running : is_some s.ends ≡ halted_of m
     pub past : past_of m ≡ s.past
     pub same_mode : s.mode ≡ bits_of (mode_of m)
-    pub stands : g.keeps_model (store_of m) → LeavesNow g (store_of m) (StandsForSome (g.sector_count (store_of m)) s.files (MayStand s))
+    pub stands : g.keeps_model (store_of m) → LeavesNow g (store_of m) (StandsForSome (g.sector_count (store_of m)) (MayStand s))
     pub most_stands : g.keeps_model (store_of m) → LeavesNow g (store_of m) (SaysMost (g.sector_count (store_of m)) s.most)
 
   pub shown : (m : Machine D E) (s : State) → Shows g h m s → IsShown m s
@@ -39,7 +39,7 @@ module _ {D E : Type 0} (g : Ghosts D) (h : Ghosts E) where
     pub kept : g.keeps_model (store_of new) → g.keeps_model (store_of old)
     pub swap_kept : h.keeps_model (swap_of new) → h.keeps_model (swap_of old)
     pub idle : is_idle s command reply ≡ true → (store_of new ≡ store_of old) × (swap_of new ≡ swap_of old)
-    pub moments : g.keeps_model (store_of new) → LeavesOnly g (store_of old) (store_of new) (StandsForSome (g.sector_count (store_of old)) s.files (HoldsIn s command reply))
+    pub moments : g.keeps_model (store_of new) → LeavesOnly g (store_of old) (store_of new) (StandsForSome (g.sector_count (store_of old)) (HoldsIn s command reply))
     pub most_moments : g.keeps_model (store_of new) → LeavesOnly g (store_of old) (store_of new) (SaysMost (g.sector_count (store_of old)) s.most)
 
   pub face : (old new : Machine D E) (s t : State) (command : Command) (reply : Reply) → Meets g h old new s t command reply → IsMet old new s t command reply

@@ -1,9 +1,9 @@
 -- Commands that write nothing to the store.
 use Rattle.vm_types.specs.declared.mode.Levels as Levels
 use Rattle.machine.proofs.Names.{ℕ, ◌/◌, ◌≡◌, inl, Bool, true, false, List, Option, Some, None, is_some, refl, sym, ap, ◌∙◌, subst, inr, ⊎_elim, arith, rules, LeavesNow, LeavesOnly, Touches, Nothing, Image, MayLeave, Ghosts, stays, started}
-use Rattle.machine.proofs.Names.{goes_on, still_leaves, asks_none, StandsFor, frame_count, slots_of, UsesDevice, ReadsStore, Picture, picture_of, ShowsPages, Core, asks_slots_same, asks_same, slotted_same, calm_same, KeepsRoom}
+use Rattle.machine.proofs.Names.{goes_on, still_leaves, asks_none, StandsForContents, frame_count, slots_of, UsesDevice, ReadsStore, Picture, picture_of, ShowsPages, Core, asks_slots_same, asks_same, slotted_same, calm_same, KeepsRoom}
 use Rattle.machine.proofs.Names.{KeepsDevices, settles_nothing, writes_none, empties_none, permits_none, takes_none, AsksFor, is_idle, Access, Command, Exit, Mmap, Munmap, Mprotect, Dontneed, Msync, Load, Store, Fetch, PastFaults, Stall, Reply, Done}
-use Rattle.machine.proofs.Names.{Halted, page_count, Files, user_end, Past, Step, Answers, Stalls, Stays, MayStall, State, IsRunning, outcome, noted, past_after, ruling, takes, Pages}
+use Rattle.machine.proofs.Names.{Halted, page_count, Files, Contents, user_end, Past, Step, Answers, Stalls, Stays, MayStall, State, IsRunning, outcome, noted, past_after, ruling, takes}
 use Rattle.machine.{specs.{Engine.{stands_in, MayStand, HoldsIn, StandsForSome, EngineShows, EngineMeets}, Accesses.{Accesses}, declared.engine.Engine.{Engine}}, proofs.Steps.{outcome_keeps, past_stalled}}
 use Rattle.msync.specs.Shows as Syncing
 use Rattle.msync.specs.Shows.{SaysMost}
@@ -11,11 +11,11 @@ use Rattle.spaces.specs.Calls as Calls
 use Rattle.vm_types.specs.declared.access.Access.TheVariants as Kinds
 use Rattle.stores.specs.{Store.{always_free_in, disk_of, kept_of}, declared.store.Store.{Store as AnyStore}}
 
-running_of : (o : Option (List Pages)) → is_some o ≡ false → o ≡ None
+running_of : (o : Option (List Contents)) → is_some o ≡ false → o ≡ None
 running_of None e = refl
 running_of (Some x) e = cc
 
-halted_of : (o : Option (List Pages)) → is_some o ≡ true → (ends : List Pages) × (o ≡ Some ends)
+halted_of : (o : Option (List Contents)) → is_some o ≡ true → (ends : List Contents) × (o ≡ Some ends)
 halted_of None e = cc
 halted_of (Some x) e = (x, refl)
 
@@ -83,22 +83,26 @@ module _ {mode : ℕ} where
   with_past c s past shows = search rules
 
 -- what may stand in a state may stand in a command of it
-holds_meanwhile : (n : ℕ) (s : State) (command : Command) (reply : Reply) (c : Image) → StandsForSome n s.files (MayStand s) c → StandsForSome n s.files (HoldsIn s command reply) c
+holds_meanwhile : (n : ℕ) (s : State) (command : Command) (reply : Reply) (c : Image) → StandsForSome n (MayStand s) c → StandsForSome n (HoldsIn s command reply) c
 holds_meanwhile n s command reply c p = (p.0, inl p.1, p.2)
 
--- the same files, as many pages of an msync, running or halted as before, and the same durable pages
+-- the same files, as many pages of an msync, running or halted as before, and the same durable contents
 record Leaves (s t : State) : Type 0 where
   pub files : t.files ≡ s.files
   pub most : t.most ≡ s.most
   pub ends : t.ends ≡ s.ends
   pub durable_is : t.durable ≡ s.durable
 
-same_stands : (n : ℕ) (s t : State) (c : Image) → Leaves s t → StandsForSome n s.files (MayStand s) c → StandsForSome n t.files (MayStand t) c
+same_stands : (n : ℕ) (s t : State) (c : Image) → Leaves s t → StandsForSome n (MayStand s) c → StandsForSome n (MayStand t) c
 same_stands n s t c kept p = (
   p.0,
-  subst (λ (o : Option (List Pages)). stands_in o t.durable p.0) (sym kept.ends) (subst (λ (d : Pages). stands_in s.ends d p.0) (sym kept.durable_is) p.1),
-  subst (λ (f : Files). StandsFor n f p.0 c) (sym kept.files) p.2,
+  subst (λ (o : Option (List Contents)). stands_in o t.durable p.0) (sym kept.ends) (subst (λ (d : Contents). stands_in s.ends d p.0) (sym kept.durable_is) p.1),
+  p.2,
 )
+
+-- so the durable files are still those that are shown
+still_files : (s t : State) → Leaves s t → ((f : ℕ) → s.durable.files f ≡ s.files f) → (f : ℕ) → t.durable.files f ≡ t.files f
+still_files s t kept same f = ap (λ (d : Contents). d.files f) kept.durable_is ∙ same f ∙ sym (ap (λ (x : Files). x f) kept.files)
 
 module _ {D : Type 0} (g : Ghosts D) where
   -- no time passed: what stood is what stands now
@@ -116,15 +120,16 @@ module _ {M : Type 0} {levels : Levels.Ghosts M} {D E : Type 0} (g : Ghosts D) (
   is_running m s shows e = running_of s.ends (shows.running ∙ e)
 
   durable_now : (old : Engine D E M levels) (s : State) → EngineShows g h old s → IsRunning s → g.keeps_model (disk_of old.core.store)
-      → LeavesNow g (disk_of old.core.store) (StandsFor (g.sector_count (disk_of old.core.store)) s.files s.durable)
+      → LeavesNow g (disk_of old.core.store) (StandsForContents (g.sector_count (disk_of old.core.store)) s.durable)
   durable_now old s shows run keeps c may =
       let p = shows.stands keeps c may in
-      let e : p.0 ≡ s.durable = subst (λ (o : Option (List Pages)). stands_in o s.durable p.0) run p.1 in
-      subst (λ (d : Pages). StandsFor (g.sector_count (disk_of old.core.store)) s.files d c) e p.2
+      let e : p.0 ≡ s.durable = subst (λ (o : Option (List Contents)). stands_in o s.durable p.0) run p.1 in
+      subst (λ (d : Contents). StandsForContents (g.sector_count (disk_of old.core.store)) d c) e p.2
 
   -- a running machine's processes and files
   pub shows_core : (old : Engine D E M levels) (s : State) → EngineShows g h old s → IsRunning s → Syncing.HasSyncRoom g old.core old.sync_room → Syncing.CoreShows g old.core s
-  shows_core old s shows run sized = record { pages = shows.pages; most = shows.most ∙ sized.most; stands = λ k. durable_now old s shows run k; most_stands = shows.most_stands }
+  shows_core old s shows run sized =
+      record { pages = shows.pages; files = shows.files; most = shows.most ∙ sized.most; stands = λ k. durable_now old s shows run k; most_stands = shows.most_stands }
 
   -- there is room for an msync still
   pub room_still : (old core : Core D E M levels) (room : Syncing.RoomSize) → always_free_in (kept_of core.store) ≡ always_free_in (kept_of old.store)
@@ -144,11 +149,11 @@ module _ {M : Type 0} {levels : Levels.Ghosts M} {D E : Type 0} (g : Ghosts D) (
     abbrev n : ℕ
     n = g.sector_count (disk_of old.core.store)
 
-    moved : (t : State) → Leaves s t → g.keeps_model (disk_of core.store) → LeavesNow g (disk_of core.store) (StandsForSome (g.sector_count (disk_of core.store)) t.files (MayStand t))
+    moved : (t : State) → Leaves s t → g.keeps_model (disk_of core.store) → LeavesNow g (disk_of core.store) (StandsForSome (g.sector_count (disk_of core.store)) (MayStand t))
     moved t kept k = λ c may.
         same_stands (g.sector_count (disk_of core.store)) s t c kept
-        (subst (λ (sectors : ℕ). StandsForSome sectors s.files (MayStand s) c) (sym reads.size)
-        (still_leaves g (disk_of old.core.store) (disk_of core.store) (StandsForSome n s.files (MayStand s)) (reads.touches k) (shows.stands (reads.kept k)) c may))
+        (subst (λ (sectors : ℕ). StandsForSome sectors (MayStand s) c) (sym reads.size)
+        (still_leaves g (disk_of old.core.store) (disk_of core.store) (StandsForSome n (MayStand s)) (reads.touches k) (shows.stands (reads.kept k)) c may))
 
     moved_most : (t : State) → Leaves s t → g.keeps_model (disk_of core.store) → LeavesNow g (disk_of core.store) (SaysMost (g.sector_count (disk_of core.store)) t.most)
     moved_most t kept k = λ c may.
@@ -159,8 +164,8 @@ module _ {M : Type 0} {levels : Levels.Ghosts M} {D E : Type 0} (g : Ghosts D) (
     goes : (t : State) → Leaves s t → is_some t.ends ≡ false
     goes t kept = rw kept.ends (rw (is_running old s shows run) refl)
 
-    during : g.keeps_model (disk_of core.store) → LeavesOnly g (disk_of old.core.store) (disk_of core.store) (StandsForSome n s.files (HoldsIn s command reply))
-    during k = only_read g only_now (disk_of old.core.store) (disk_of core.store) (StandsForSome n s.files (HoldsIn s command reply)) (reads.kept k)
+    during : g.keeps_model (disk_of core.store) → LeavesOnly g (disk_of old.core.store) (disk_of core.store) (StandsForSome n (HoldsIn s command reply))
+    during k = only_read g only_now (disk_of old.core.store) (disk_of core.store) (StandsForSome n (HoldsIn s command reply)) (reads.kept k)
         (λ c may. holds_meanwhile n s command reply c (shows.stands (reads.kept k) c may)) (reads.touches k)
 
     most_during : g.keeps_model (disk_of core.store) → LeavesOnly g (disk_of old.core.store) (disk_of core.store) (SaysMost n s.most)
@@ -183,6 +188,7 @@ module _ {M : Type 0} {levels : Levels.Ghosts M} {D E : Type 0} (g : Ghosts D) (
             pages = with_past (picture_of core) (outcome s command).state _ pages;
             running = goes t kept;
             past = kept_past ∙ ap (past_after command reply) (shows.past ∙ sym all.past);
+            files = still_files s t kept shows.files;
             most = kept.most ∙ shows.most;
             stands = moved t kept;
             most_stands = moved_most t kept;
@@ -198,6 +204,7 @@ module _ {M : Type 0} {levels : Levels.Ghosts M} {D E : Type 0} (g : Ghosts D) (
             pages = pages;
             running = goes s kept;
             past = kept_past ∙ ap (λ (r : Reply). past_after command r old.past) answer ∙ past_stalled command stall old.past ∙ shows.past;
+            files = shows.files;
             most = shows.most;
             stands = moved s kept;
             most_stands = moved_most s kept;
@@ -230,7 +237,7 @@ module _ {M : Type 0} {levels : Levels.Ghosts M} {D E : Type 0} (g : Ghosts D) (
   stays_halted only_now old s command shows stop =
       let ends = halted_of s.ends (shows.running ∙ stop) in
       let n = g.sector_count (disk_of old.core.store) in
-      let moments = λ (k : g.keeps_model (disk_of old.core.store)). no_time g only_now (disk_of old.core.store) (StandsForSome n s.files (HoldsIn s command Halted)) k
+      let moments = λ (k : g.keeps_model (disk_of old.core.store)). no_time g only_now (disk_of old.core.store) (StandsForSome n (HoldsIn s command Halted)) k
       (λ c may. holds_meanwhile n s command Halted c (shows.stands k c may)) in
       let most_moments = λ (k : g.keeps_model (disk_of old.core.store)). no_time g only_now (disk_of old.core.store) (SaysMost n s.most) k (shows.most_stands k) in
       let step : Step (Calls.causes g h old.core old.core) s command Halted s = Stays ends.0 ends.1 refl refl in

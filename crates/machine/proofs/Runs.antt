@@ -1,14 +1,12 @@
 -- A chain of commands, and what a stop in it leaves.
-use Rattle.machine.proofs.Names.{ℕ, zero, suc, ◌≡◌, ◌≤◌, ◌⊎◌, inl, inr, ⊎_elim, List, [], ◌∷◌, ◌++◌, Option, Some, refl, sym, ap, ◌∙◌, subst, arith, Image, Ghosts, Command, Reply, Files, Event, StandsFor}
-use Rattle.machine.proofs.{Face.{causes, shown, face}, Flat.{OnlyNow}, Names.{acknowledged, State, Pages}, Prefixes.{halted_event, halted_stays, left_after, left_during, left_first, left_here, left_in, left_none, none_acknowledged, step_files, step_most}}
+use Rattle.machine.proofs.Names.{ℕ, zero, suc, ◌≡◌, ◌≤◌, ◌⊎◌, inl, inr, ⊎_elim, List, [], ◌∷◌, ◌++◌, Option, Some, refl, sym, ap, ◌∙◌, subst, arith, Image, Ghosts, Command, Reply, Event, StandsForContents}
+use Rattle.machine.proofs.{Face.{causes, shown, face}, Flat.{OnlyNow}, Names.{acknowledged, State, Contents}, Prefixes.{halted_event, halted_stays, left_after, left_during, left_first, left_here, left_in, left_none, none_acknowledged, step_most}}
 use Rattle.msync.specs.Shows.{SaysMost}
 use Rattle.machine.specs.{Chain.{event, Caused, Chain, after, Runs}, Engine.{MayStand, HoldsIn, StandsForSome}, Machine.{store_of, KeepsSizes, IsCausedBetween, Shows, Meets}, declared.machine.Machine.{Machine}}
 
 -- the same image stands for contents of which Q holds
-some_more : (n m : ℕ) (these those : Files) (P Q : Pages → Type 0) (c : Image) → n ≡ m → these ≡ those → ((p : Pages) → P p → Q p)
-    → StandsForSome n these P c → StandsForSome m those Q c
-some_more n m these those P Q c size files more h =
-    (h.0, more h.0 h.1, subst (λ (k : ℕ). StandsFor k those h.0 c) size (subst (λ (f : Files). StandsFor n f h.0 c) files h.2))
+some_more : (n m : ℕ) (P Q : Contents → Type 0) (c : Image) → n ≡ m → ((p : Contents) → P p → Q p) → StandsForSome n P c → StandsForSome m Q c
+some_more n m P Q c size more h = (h.0, more h.0 h.1, subst (λ (k : ℕ). StandsForContents k h.0 c) size h.2)
 
 pub room_none : {D E : Type 0} (m : Machine D E) → KeepsSizes m m
 room_none m = record { frames = refl; slots = refl; mode = refl }
@@ -44,7 +42,7 @@ module _ {D E : Type 0} (g : Ghosts D) (h : Ghosts E) where
   chain_room old s commands replies events new t c = absurd c
 
   -- once it has halted, nothing is acknowledged
-  none_after : (ends : List Pages) (old : Machine D E) (s : State) (commands : List Command) (replies : List Reply) (events : List Event) (new : Machine D E) (t : State)
+  none_after : (ends : List Contents) (old : Machine D E) (s : State) (commands : List Command) (replies : List Reply) (events : List Event) (new : Machine D E) (t : State)
       → Chain g h old s commands replies events new t → s.ends ≡ Some ends → (k : ℕ) → acknowledged events k ≡ 0
   none_after ends old s [] [] [] new t c is k = refl
   none_after ends old s (x ∷ xs) (r ∷ rs) (e ∷ es) new t c is zero = refl
@@ -57,26 +55,26 @@ module _ {D E : Type 0} (g : Ghosts D) (h : Ghosts E) where
   -- what stood since a moment before the chain stood then, or is left by its commands
   leaves : (old : Machine D E) (s : State) (commands : List Command) (replies : List Reply) (events : List Event) (new : Machine D E) (t : State)
       → Chain g h old s commands replies events new t → g.keeps_model (store_of new) → (m : ℕ) (image : Image) → m ≤ g.moment (store_of old) → g.left_since (store_of new) m image
-      → g.left_since (store_of old) m image ⊎ StandsForSome (g.sector_count (store_of old)) s.files (left_in s.ends s.durable events 0) image
+      → g.left_since (store_of old) m image ⊎ StandsForSome (g.sector_count (store_of old)) (left_in s.ends s.durable events 0) image
   leaves old s [] [] [] new t c keeps m image le left = inl (subst (λ (x : Machine D E). g.left_since (store_of x) m image) c.0 left)
   leaves old s (x ∷ xs) (r ∷ rs) (e ∷ es) new t c keeps m image le left =
       let meets = face g h old c.0 s c.1 x r c.3 in
       let only = meets.moments (chain_kept c.0 c.1 xs rs es new t c.4 keeps) in
-      subst (λ (first : Event). g.left_since (store_of old) m image ⊎ StandsForSome (g.sector_count (store_of old)) s.files (left_in s.ends s.durable (first ∷ es) 0) image) (sym c.2)
+      subst (λ (first : Event). g.left_since (store_of old) m image ⊎ StandsForSome (g.sector_count (store_of old)) (left_in s.ends s.durable (first ∷ es) 0) image) (sym c.2)
       (⊎_elim
-      (λ before. ⊎_elim (λ o. inl o) (λ p. inr (some_more _ _ _ _ (HoldsIn s x r) _ image refl refl (left_during s x r es) p)) (only.before m image le before))
-      (λ p. inr (some_more _ _ _ _ (left_in c.1.ends c.1.durable es 0) _ image meets.size (step_files (causes g h old c.0) s x r c.1 meets.step)
+      (λ before. ⊎_elim (λ o. inl o) (λ p. inr (some_more _ _ (HoldsIn s x r) _ image refl (left_during s x r es) p)) (only.before m image le before))
+      (λ p. inr (some_more _ _ (left_in c.1.ends c.1.durable es 0) _ image meets.size
       (λ q later. left_first s.ends s.durable (event s x r ∷ es) 1 q (left_after (causes g h old c.0) s x r c.1 es 0 q meets.step (λ ends is. none_acknowledged es) later)) p))
       (leaves c.0 c.1 xs rs es new t c.4 keeps m image (omega (arith, le, only.later)) left))
   leaves old s commands replies events new t c keeps m image le left = absurd c
 
   leaves_from : (old : Machine D E) (s : State) (commands : List Command) (replies : List Reply) (events : List Event) (new : Machine D E) (t : State)
       → Chain g h old s commands replies events new t → g.keeps_model (store_of new) → OnlyNow g → Shows g h old s
-      → (image : Image) → g.left_since (store_of new) (g.moment (store_of old)) image → StandsForSome (g.sector_count (store_of old)) s.files (left_in s.ends s.durable events 0) image
+      → (image : Image) → g.left_since (store_of new) (g.moment (store_of old)) image → StandsForSome (g.sector_count (store_of old)) (left_in s.ends s.durable events 0) image
   leaves_from old s commands replies events new t c keeps only_now shows image left =
       let kept = chain_kept old s commands replies events new t c keeps in
       ⊎_elim
-      (λ o. some_more _ _ _ _ (MayStand s) _ image refl refl (left_here s.ends s.durable events) ((shown g h old s shows).stands kept image (only_now (store_of old) image kept o)))
+      (λ o. some_more _ _ (MayStand s) _ image refl (left_here s.ends s.durable events) ((shown g h old s shows).stands kept image (only_now (store_of old) image kept o)))
       (λ p. p)
       (leaves old s commands replies events new t c keeps (g.moment (store_of old)) image (omega arith) left)
 
@@ -84,15 +82,15 @@ module _ {D E : Type 0} (g : Ghosts D) (h : Ghosts E) where
   pub leaves_since : (old : Machine D E) (s : State) (commands : List Command) (replies : List Reply) (events : List Event) (new : Machine D E) (t : State)
       → (c : Chain g h old s commands replies events new t) → g.keeps_model (store_of new) → OnlyNow g → Shows g h old s
       → (k : ℕ) (image : Image) → g.left_since (store_of new) (g.moment (store_of (after g h old s commands replies events new t c k))) image
-      → StandsForSome (g.sector_count (store_of old)) s.files (left_in s.ends s.durable events k) image
+      → StandsForSome (g.sector_count (store_of old)) (left_in s.ends s.durable events k) image
   leaves_since old s [] [] [] new t c keeps only_now shows k image left =
-      some_more _ _ _ _ (left_in s.ends s.durable [] 0) _ image refl refl (left_none s.ends s.durable k) (leaves_from old s [] [] [] new t c keeps only_now shows image left)
+      some_more _ _ (left_in s.ends s.durable [] 0) _ image refl (left_none s.ends s.durable k) (leaves_from old s [] [] [] new t c keeps only_now shows image left)
   leaves_since old s (x ∷ xs) (r ∷ rs) (e ∷ es) new t c keeps only_now shows zero image left =
       leaves_from old s (x ∷ xs) (r ∷ rs) (e ∷ es) new t c keeps only_now shows image left
   leaves_since old s (x ∷ xs) (r ∷ rs) (e ∷ es) new t c keeps only_now shows (suc k) image left =
       let meets = face g h old c.0 s c.1 x r c.3 in
-      subst (λ (first : Event). StandsForSome (g.sector_count (store_of old)) s.files (left_in s.ends s.durable (first ∷ es) (suc k)) image) (sym c.2)
-      (some_more _ _ _ _ (left_in c.1.ends c.1.durable es k) _ image meets.size (step_files (causes g h old c.0) s x r c.1 meets.step)
+      subst (λ (first : Event). StandsForSome (g.sector_count (store_of old)) (left_in s.ends s.durable (first ∷ es) (suc k)) image) (sym c.2)
+      (some_more _ _ (left_in c.1.ends c.1.durable es k) _ image meets.size
       (λ q. left_after (causes g h old c.0) s x r c.1 es k q meets.step (λ ends is. none_after ends c.0 c.1 xs rs es new t c.4 is k))
       (leaves_since c.0 c.1 xs rs es new t c.4 keeps only_now meets.shows k image left))
   leaves_since old s commands replies events new t c keeps only_now shows k image left = absurd c
@@ -177,7 +175,7 @@ module _ {D E : Type 0} (g : Ghosts D) (h : Ghosts E) where
     shows = ran.shows;
     room = chain_room old s commands replies ran.events new ran.last ran.chain;
     prefixes = λ run keeps k image left.
-        subst (λ (o : Option (List Pages)). StandsForSome (g.sector_count (store_of old)) s.files (left_in o s.durable ran.events k) image) run
+        subst (λ (o : Option (List Contents)). StandsForSome (g.sector_count (store_of old)) (left_in o s.durable ran.events k) image) run
         (leaves_since old s commands replies ran.events new ran.last ran.chain keeps only_now shows k image left);
     most = λ keeps k image left. most_since old s commands replies ran.events new ran.last ran.chain keeps only_now shows k image left;
   }

@@ -1,11 +1,11 @@
--- What a step of the flat model leaves of files and durable pages.
+-- What a step of the flat model leaves of files and of what is durable.
 use Rattle.machine.proofs.Names.{ℕ, ◌≡◌, ◌/◌, ◌==◌, Bool, true, false, if◌then◌else◌, List, Option, Some, None, refl, rules, StoredValue, Command, Spawn, Fork, Exit, Mmap, Munmap, Mprotect, Dontneed, Msync, Load, Store, Fetch, PastFaults}
 use Rattle.machine.proofs.Names.{MapSource, Prot, Errno, ESRCH, Backing, Anon, Stall, Fault, Done, Refused, Stalled, Faulted, Width, with_shown_bytes, Past, Ruling, Refuses, Takes, msync_ruling, committed, State, Outcome, outcome, answers}
 use Rattle.machine.proofs.Names.{refused_or, spawn_outcome, fork_outcome, fetch_outcome, mmap_outcome, msync_outcome, load_outcome, store_outcome, past_after, ruling, takes, commit_of, first_of, pages_from, least_free_pid, munmap_checks}
-use Rattle.machine.proofs.Names.{asked_checks, row_checks, covered_checks, mmap_errno, mmap_place, Verdict, Fine, Faults, View, Pages}
+use Rattle.machine.proofs.Names.{asked_checks, row_checks, covered_checks, mmap_errno, mmap_place, Verdict, Fine, Faults, View, Contents}
 
--- What a command comes to: an answer, with the same files, running or halted as before, and these durable pages.
-pub record Keeps (s : State) (x : Outcome) (durable : Pages) : Type 0 where
+-- What a command comes to: an answer, with the same files, running or halted as before, and these durable contents.
+pub record Keeps (s : State) (x : Outcome) (durable : Contents) : Type 0 where
   pub files : x.state.files ≡ s.files
   pub most : x.state.most ≡ s.most
   pub ends : x.state.ends ≡ s.ends
@@ -55,7 +55,7 @@ keeps_store : (s : State) (pid addr : ℕ) (value : StoredValue) (v : Verdict) �
 keeps_store s pid addr value (Faults code) = search rules
 keeps_store s pid addr value (Fine view) = keeps_bytes s pid _ view view.attr.backing _
 
-keeps_either : (s : State) (b : Bool) (x y : Outcome) (d : Pages) → Keeps s x d → Keeps s y d → Keeps s (if b then x else y) d
+keeps_either : (s : State) (b : Bool) (x y : Outcome) (d : Contents) → Keeps s x d → Keeps s y d → Keeps s (if b then x else y) d
 keeps_either s true x y d h k = h
 keeps_either s false x y d h k = k
 
@@ -87,6 +87,6 @@ pub past_stalled : (command : Command) (stall : Stall) (past : Past) → past_af
 past_stalled Spawn stall past = refl
 past_stalled command stall past = refl
 
-pub commit_takes : (s : State) (r : Ruling) (after : Pages) → commit_of s r ≡ Some after → after ≡ takes s r s.durable
+pub commit_takes : (s : State) (r : Ruling) (after : Contents) → commit_of s r ≡ Some after → after ≡ takes s r s.durable
 commit_takes s (Takes pid first count) after e = (let k : Some (committed s pid first count s.durable) ≡ Some after = e in cc)
 commit_takes s r after e = absurd (cc)

@@ -3,7 +3,7 @@ use Rattle.std.specs.Prelude.{ℕ, ◌*◌, ◌^◌, ◌≡◌, ◌<◌, ◌≤�
 use Rattle.disk_model.specs.Moments.{Touches, AsksOnly, Nothing, LeavesOnly}
 use Rattle.disk_model.specs.Stop.{Image}
 use Rattle.disk_model.specs.declared.sector_disk.SectorDisk.{Ghosts}
-use Rattle.stores.specs.Images.{is_pool, most_pages, SaysMostOf, StandsFor, StandsAs, IsBadLayout, IsBadJournal, IsAskedToOpen, IsOutside}
+use Rattle.stores.specs.Images.{is_pool, most_pages, SaysMostOf, StandsForContents, StandsAs, IsBadLayout, IsBadJournal, IsAskedToOpen, IsOutside}
 use Rattle.vm_types.specs.State.{State, IsRunning}
 use Rattle.machine.specs.declared.boot.BootFault.{BootFault}
 use Rattle.machine.specs.declared.boot.BootFault.TheVariants.{Frames, Slots, Device, BadLayout, BadJournal}
@@ -24,11 +24,12 @@ HasBadSlots config sectors = (2 ^ 16 < config.slots) ⊎ (sectors < 8 * config.s
 abbrev pub IsAskedToBoot : ℕ → Image → ℕ → Type 0
 IsAskedToBoot sectors image k = IsAskedToOpen sectors image k ⊎ ((is_pool image ≡ true) × (IsOutside sectors image k → ⊥))
 
--- The flat model as it starts: no process, files of which nothing was stored to, and no objects.
+-- The flat model as it starts: no process, files that are as durable, of which nothing was stored to, and no objects.
 pub record IsBootState (s : State) : Type 0 where
   pub live : (pid : ℕ) → s.live pid ≡ false
   pub views : (pid page : ℕ) → s.views pid page ≡ None
-  pub same : (file page : ℕ) → s.volatile file page ≡ s.durable file page
+  pub files : (file : ℕ) → s.durable.files file ≡ s.files file
+  pub same : (file page : ℕ) → s.volatile file page ≡ s.durable.pages file page
   pub touched : (file page : ℕ) → s.touched file page ≡ false
   pub objects : (object page : ℕ) → s.objects object page ≡ None
   pub past : s.past ≡ []
@@ -63,7 +64,7 @@ module _ {D E : Type 0} (g : Ghosts D) (h : Ghosts E) where
     -- the state is of the mode of the machine
     pub same_mode : state.mode ≡ bits_of (mode_of m)
     -- the image at entry stood for these files, with these bytes
-    pub stands : g.keeps_model (store_of m) → StandsFor (g.sector_count store) state.files state.durable (g.content store)
+    pub stands : g.keeps_model (store_of m) → StandsForContents (g.sector_count store) state.durable (g.content store)
     -- and an msync takes as many pages at most as that image says
     pub most : g.keeps_model (store_of m) → state.most ≡ most_pages (g.sector_count store) (g.content store)
 

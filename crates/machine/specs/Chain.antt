@@ -50,7 +50,7 @@ module _ {D E : Type 0} (g : Ghosts D) (h : Ghosts E) where
   LeavesPrefixes old s commands replies events new t chain =
       (k : ℕ) (image : Image)
       → g.left_since (store_of new) (g.moment (store_of (after old s commands replies events new t chain k))) image
-      → StandsForSome (g.sector_count (store_of old)) s.files (IsPrefixHolding s.durable events k) image
+      → StandsForSome (g.sector_count (store_of old)) (IsPrefixHolding s.durable events k) image
 
   -- It says as many pages of an msync as the state.
   abbrev pub LeavesMost : (old : Machine D E) (s : State) (commands : List Command) (replies : List Reply) (events : List Event) (new : Machine D E) (t : State)

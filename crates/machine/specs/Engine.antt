@@ -4,10 +4,10 @@ use Rattle.std.specs.Prelude.{ℕ, ◌≡◌, ◌≢◌, ◌⊎◌, true, false,
 use Rattle.disk_model.specs.Moments.{LeavesNow, LeavesOnly}
 use Rattle.disk_model.specs.Stop.{Image}
 use Rattle.disk_model.specs.declared.sector_disk.SectorDisk.{Ghosts}
-use Rattle.stores.specs.Images.{StandsFor}
 use Rattle.frames.specs.FrameTable.{frame_count}
 use Rattle.swap.specs.Slots.{slots_of}
 use Rattle.residency.specs.Picture.{picture_of}
+use Rattle.stores.specs.Images.{StandsForContents}
 use Rattle.residency.specs.Shows.{ShowsPages}
 use Rattle.fault.specs.Changes.{KeepsRoom}
 use Rattle.ranges.specs.Steps.{KeepsDevices}
@@ -21,37 +21,36 @@ use Rattle.vm_types.specs.declared.refusal.Fault.{Fault}
 use Rattle.vm_types.specs.declared.refusal.Stall.{Stall}
 use Rattle.vm_types.specs.declared.reply.Reply.{Reply}
 use Rattle.vm_types.specs.declared.reply.Reply.TheVariants.{Faulted, Refused, Stalled}
-use Rattle.vm_types.specs.Files.{Files}
+use Rattle.vm_types.specs.Files.{Contents}
 use Rattle.vm_types.specs.Prefix.{is_msync, may_have_taken}
 use Rattle.vm_types.specs.Run.{Step}
 use Rattle.vm_types.specs.Stalls.{reads_files, reads_swap}
 use Rattle.vm_types.specs.State.{State, IsRunning}
 use Rattle.vm_types.specs.Step.{ruling, takes}
-use Rattle.vm_types.specs.View.{Pages}
 use Rattle.machine.specs.declared.engine.Engine.{Engine}
 use Rattle.stores.specs.Store.{disk_of}
 
 -- one of a list of contents
-abbrev pub IsOneOf : Pages → List Pages → Type 0
-IsOneOf pages [] = ⊥
-IsOneOf pages (one ∷ others) = (pages ≡ one) ⊎ IsOneOf pages others
+abbrev pub IsOneOf : Contents → List Contents → Type 0
+IsOneOf contents [] = ⊥
+IsOneOf contents (one ∷ others) = (contents ≡ one) ⊎ IsOneOf contents others
 
-abbrev pub stands_in : Option (List Pages) → Pages → Pages → Type 0
-stands_in None durable pages = pages ≡ durable
-stands_in (Some ends) durable pages = IsOneOf pages ends
+abbrev pub stands_in : Option (List Contents) → Contents → Contents → Type 0
+stands_in None durable contents = contents ≡ durable
+stands_in (Some ends) durable contents = IsOneOf contents ends
 
 -- the contents of all files that a stop may leave in a state: the durable ones, or once it has halted one of its ends
-abbrev pub MayStand : State → Pages → Type 0
-MayStand s pages = stands_in s.ends s.durable pages
+abbrev pub MayStand : State → Contents → Type 0
+MayStand s contents = stands_in s.ends s.durable contents
 
 -- the same at any moment of a command: what it makes durable may stand as well
-abbrev pub HoldsIn : State → Command → Reply → Pages → Type 0
-HoldsIn s command reply pages =
-    MayStand s pages ⊎ (IsRunning s × (may_have_taken reply ≡ true) × (pages ≡ takes s (ruling s command) s.durable))
+abbrev pub HoldsIn : State → Command → Reply → Contents → Type 0
+HoldsIn s command reply contents =
+    MayStand s contents ⊎ (IsRunning s × (may_have_taken reply ≡ true) × (contents ≡ takes s (ruling s command) s.durable))
 
 -- the image stands for contents of which P holds
-abbrev pub StandsForSome : ℕ → Files → (Pages → Type 0) → Image → Type 0
-StandsForSome sectors files P image = (pages : Pages) × P pages × StandsFor sectors files pages image
+abbrev pub StandsForSome : ℕ → (Contents → Type 0) → Image → Type 0
+StandsForSome sectors P image = (contents : Contents) × P contents × StandsForContents sectors contents image
 
 module _ {M : Type 0} {levels : Levels.Ghosts M} {D E : Type 0} where
   -- A command that was not carried out leaves memory and both devices as they were.
@@ -70,15 +69,16 @@ module _ {M : Type 0} {levels : Levels.Ghosts M} {D E : Type 0} (g : Ghosts D) (
     pub room : HasSyncRoom g m.core m.sync_room
     pub going : m.halted ≡ false → IsSoundCore g h m.core
 
-  -- The engine is in that state: its memory shows it, its room is that for an msync, and every image that a stop may leave now shows it,
-  -- too, with as many pages of an msync.
+  -- The engine is in that state: its memory shows it, its room is that for an msync, the durable files are those that it shows, and every image
+  -- that a stop may leave now shows it, too, with as many pages of an msync.
   pub record EngineShows (m : Engine D E M levels) (s : State) : Type 0 where
     pub pages : ShowsPages (picture_of m.core) s
     pub running : is_some s.ends ≡ m.halted
     pub past : m.past ≡ s.past
+    pub files : (f : ℕ) → s.durable.files f ≡ s.files f
     pub most : s.most ≡ m.sync_room.most
     pub stands : g.keeps_model (disk_of m.core.store)
-        → LeavesNow g (disk_of m.core.store) (StandsForSome (g.sector_count (disk_of m.core.store)) s.files (MayStand s))
+        → LeavesNow g (disk_of m.core.store) (StandsForSome (g.sector_count (disk_of m.core.store)) (MayStand s))
     pub most_stands : g.keeps_model (disk_of m.core.store) → LeavesNow g (disk_of m.core.store) (SaysMost (g.sector_count (disk_of m.core.store)) s.most)
 
   -- A command was carried out: as the flat model does, stalled for want of memory only where that is short, with as many frames and
@@ -94,7 +94,7 @@ module _ {M : Type 0} {levels : Levels.Ghosts M} {D E : Type 0} (g : Ghosts D) (
     pub swap_kept : h.keeps_model new.core.swap.pages.disk → h.keeps_model old.core.swap.pages.disk
     pub idle : is_idle s command reply ≡ true → KeepsDevices old.core new.core
     pub moments : g.keeps_model (disk_of new.core.store)
-        → LeavesOnly g (disk_of old.core.store) (disk_of new.core.store) (StandsForSome (g.sector_count (disk_of old.core.store)) s.files (HoldsIn s command reply))
+        → LeavesOnly g (disk_of old.core.store) (disk_of new.core.store) (StandsForSome (g.sector_count (disk_of old.core.store)) (HoldsIn s command reply))
     pub most_moments : g.keeps_model (disk_of new.core.store) → LeavesOnly g (disk_of old.core.store) (disk_of new.core.store) (SaysMost (g.sector_count (disk_of old.core.store)) s.most)
 
   -- The premise of a command's contract: a device that it reads keeps its model.

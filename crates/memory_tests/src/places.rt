@@ -10,7 +10,7 @@ const FRAMES: u32 = 1100;
 // How many pages the list has room for.
 const ROOM: usize = 1023;
 
-fn file(file: u8, page: u32) -> PageKey {
+fn file(file: u16, page: u32) -> PageKey {
     PageKey::File(FilePage { file, page })
 }
 

@@ -2,8 +2,8 @@
 use Rattle.vm_types.specs.declared.mode.Levels as Levels
 use Rattle.msync.proofs.Names.{ℕ, inl, inr, ◌⊎◌, ◌-◌, ◌*◌, ◌≡◌, ◌≢◌, ◌<◌, ◌≤◌, ◌&&◌, ◌++◌, not, true, false, min, List, length, take, replicate, slice_get, Option, Some, None, Result, Err, refl, sym, ap, ◌∙◌, subst, arith, rules}
 use Rattle.msync.proofs.Names.{get_or-take, cases_Bool, length-take-le, get_or_from_slice_get, slice_get-get_or, slice_get_within, and-true, and-false, is_some, IsErrOf, frame_of, LeavesNow, LeavesOnly, Ghosts, AnyDirectory}
-use Rattle.msync.proofs.Names.{Store, ArePages, Changes, StandsForEither, cut_page, StandsFor, IsPageOf, HasCauses, CommitFault, Source, Device, Private, Cache, FrameTable, SlotTable, Home, Frame, Slot, Msync, MsyncMode}
-use Rattle.msync.proofs.Names.{FileInfo, FilePage, ObjectPage, PageKey, File, Object, SlotNo, EIO, SwapDevice, Reply, Done, Refused, Files, inside_of, cut, trimmed, touched_in, committed, synced, State, msync_outcome, commit_of, commits}
+use Rattle.msync.proofs.Names.{Store, ArePages, Changes, StandsForEitherContents, cut_page, StandsForContents, IsPageOf, HasCauses, CommitFault, Source, Device, Private, Cache, FrameTable, SlotTable, Home, Frame, Slot, Msync, MsyncMode}
+use Rattle.msync.proofs.Names.{FileInfo, FilePage, ObjectPage, PageKey, File, Object, SlotNo, EIO, SwapDevice, Reply, Done, Refused, Files, Contents, inside_of, cut, trimmed, touched_in, committed, committed_pages, synced, State, msync_outcome, commit_of, commits}
 use Rattle.msync.{proofs.{Names.{Pages, Core, InFrame, Picture, picture_of, entry, held, is_private, IsFit, ShowsPages}, SettledPages.{one_file, held_spot, cases_listed}}, specs.Choice.{Chosen, chosen_page, first_page, ListsTouched}}
 use Rattle.msync.specs.{Choice.{TakesSame, IsListedPage, IsAway}, Core.{KeepsMemory, IsEnd, Acknowledged, Failed, Unread, Commits}, Settling.{settled_place, settled_in, Settles, LosesDirtyOnly, ComesHome, SettlesMemory, SettlesPlaces}}
 use Rattle.msync.specs.{Shows.{IsSoundCore, CoreShows, SaysMost}, Spots.{spot_at, place_at, bytes_there, IsSlotted, HasSlot, AreSpots, HasSpots}, declared.chosen.{Residence.{Residence, TheVariants.{Framed, Slotted}}, Spot.{Spot}}}
@@ -95,10 +95,10 @@ same_cut info k page len =
 
 -- a page that is taken, and one that isn't
 taken_page : (s : State) (pid first count f k : ℕ) (before : Pages) → touched_in s pid first count f k ≡ true
-    → committed s pid first count before f k ≡ trimmed s.files f k (s.volatile f k)
+    → committed_pages s pid first count before f k ≡ trimmed s.files f k (s.volatile f k)
 taken_page s pid first count f k before taken = rw taken refl
 
-left_page : (s : State) (pid first count f k : ℕ) (before : Pages) → touched_in s pid first count f k ≡ false → committed s pid first count before f k ≡ before f k
+left_page : (s : State) (pid first count f k : ℕ) (before : Pages) → touched_in s pid first count f k ≡ false → committed_pages s pid first count before f k ≡ before f k
 left_page s pid first count f k before left = rw left refl
 
 no_home : (at : Residence) → Home ≢ place_at at
@@ -134,16 +134,18 @@ module _ {mode : ℕ} (c : Picture mode) (s : State) (pid first count : ℕ) (pa
       let file : s.files p.file ≡ Some at.0 = shows.files p.file ∙ at.1 in
       ap (trimmed s.files p.file p.page) (bytes_at i less) ∙ subst (λ (o : Option FileInfo). cut (inside_of o p.page) w ≡ cut_page o p.page w) (sym file) (same_cut at.0 p.page w (spots.whole i less))
 
-  -- what the store makes of the durable pages is what the flat model does
-  pub changes : (before : Pages) → Changes s.files pages (λ i. bytes_there c.frames c.slots (spot_at list i).at) before (committed s pid first count before)
-  changes before = record {
+  -- what the store makes of what is durable is what the flat model does
+  pub changes : (before : Contents) → ((f : ℕ) → before.files f ≡ s.files f)
+      → Changes before.files pages (λ i. bytes_there c.frames c.slots (spot_at list i).at) before.pages (committed s pid first count before).pages
+  changes before files = record {
     listed = λ i p e.
         let r = some_get pages i p e in
         let q = chosen_page pages i in
-        subst (λ (x : FilePage). committed s pid first count before x.file x.page ≡ cut_page (s.files x.file) x.page (bytes_there c.frames c.slots (spot_at list i).at)) (sym r.1)
-        (taken_page s pid first count q.file q.page before (lists.each i r.0) ∙ cut_at i r.0);
+        let w = bytes_there c.frames c.slots (spot_at list i).at in
+        subst (λ (x : FilePage). committed_pages s pid first count before.pages x.file x.page ≡ cut_page (before.files x.file) x.page w) (sym r.1)
+        (taken_page s pid first count q.file q.page before.pages (lists.each i r.0) ∙ cut_at i r.0 ∙ ap (λ (o : Option FileInfo). cut_page o q.page w) (sym (files q.file)));
     others = λ f k none. elim (cases_Bool (touched_in s pid first count f k)) [
-      | inr left ↦ left_page s pid first count f k before left
+      | inr left ↦ left_page s pid first count f k before.pages left
       | inl taken ↦ (
           let r = lists.all (record { file = f; page = k }) taken in
           absurd (none r.0 (chosen_page pages r.0) (slice_get-get_or pages r.0 first_page r.1) (ap (λ (x : FilePage). x.file) r.2) (ap (λ (x : FilePage). x.page) r.2)))
@@ -170,7 +172,7 @@ module _ {mode : ℕ} (c : Picture mode) (s : State) (pid first count : ℕ) (pa
       | inr left ↦ (rw left (and-true (s.touched p.file p.page) ∙ shows.touched p ∙ sym (settles.untouched (File p) (not_listed p left))))
     ]
 
-    held_now : (p : FilePage) (bytes : List ℕ) → held new (File p) ≡ Some bytes → committed s pid first count s.volatile p.file p.page ≡ bytes
+    held_now : (p : FilePage) (bytes : List ℕ) → held new (File p) ≡ Some bytes → committed_pages s pid first count s.volatile p.file p.page ≡ bytes
     held_now p bytes here = elim (cases_Bool (touched_in s pid first count p.file p.page)) [
       | inl taken ↦ (
           let r = listed_place p taken in
@@ -201,10 +203,10 @@ module _ {mode : ℕ} (c : Picture mode) (s : State) (pid first count : ℕ) (pa
       held = held_now;
       same_mode = shows.same_mode;
       clean = λ p untouched inside. elim (cases_Bool (touched_in s pid first count p.file p.page)) [
-        | inl taken ↦ taken_page s pid first count p.file p.page s.volatile taken ∙ sym (taken_page s pid first count p.file p.page s.durable taken)
+        | inl taken ↦ taken_page s pid first count p.file p.page s.volatile taken ∙ sym (taken_page s pid first count p.file p.page s.durable.pages taken)
         | inr left ↦ left_page s pid first count p.file p.page s.volatile left
             ∙ shows.clean p (sym (settles.untouched (File p) (not_listed p left)) ∙ untouched) (inside.0, sym (settles.files p.file) ∙ inside.1, inside.2)
-            ∙ sym (left_page s pid first count p.file p.page s.durable left)
+            ∙ sym (left_page s pid first count p.file p.page s.durable.pages left)
       ];
     }
 
@@ -288,7 +290,7 @@ pub source_failed : (before now a b : ℕ) (f : CommitFault) → f ≡ Source �
 source_failed before now a b f is causes = causes.source (err_is f Source is)
 
 -- what a commit would leave is what the flat model takes
-after_is : (s : State) (after : Pages) (pid addr len : ℕ) (mode : MsyncMode) (chosen : Chosen) → (same : TakesSame s pid addr len mode chosen)
+after_is : (s : State) (after : Contents) (pid addr len : ℕ) (mode : MsyncMode) (chosen : Chosen) → (same : TakesSame s pid addr len mode chosen)
     → commits s (Msync pid addr len mode) ≡ Some after → committed s pid same.first same.count s.durable ≡ after
 after_is s after pid addr len mode chosen same e = let taken : Some (committed s pid same.first same.count s.durable) ≡ Some after = sym (ap (commit_of s) same.ruling) ∙ e in cc
 
@@ -307,19 +309,19 @@ store_same P c t t' d d' slots files p = subst (λ (x : AnyDirectory). P (with_s
 
 module _ {D : Type 0} (g : Ghosts D) where
   -- what the store's commit says of these contents, as long as its source kept its model
-  pub record StoreCommits (model : Type 0) (n : ℕ) (files : Files) (before after : Pages) (old new : Store D) : Type 0 where
+  pub record StoreCommits (model : Type 0) (n : ℕ) (before after : Contents) (old new : Store D) : Type 0 where
     pub directory : directory_of new ≡ directory_of old
     pub always : always_free_in (kept_of new) ≡ always_free_in (kept_of old)
     pub size : g.sector_count (disk_of new) ≡ g.sector_count (disk_of old)
     pub kept : g.keeps_model (disk_of new) → g.keeps_model (disk_of old)
-    pub either : g.keeps_model (disk_of new) → model → LeavesNow g (disk_of old) (StandsFor n files before) → LeavesOnly g (disk_of old) (disk_of new) (StandsForEither n files before after)
+    pub either : g.keeps_model (disk_of new) → model → LeavesNow g (disk_of old) (StandsForContents n before) → LeavesOnly g (disk_of old) (disk_of new) (StandsForEitherContents n before after)
     pub most_moment : g.keeps_model (disk_of new) → LeavesOnly g (disk_of old) (disk_of new) (SaysMostOf n (g.content (disk_of old)))
     pub most_now : g.keeps_model (disk_of new) → LeavesNow g (disk_of new) (SaysMostOf n (g.content (disk_of old)))
 
 module _ {M : Type 0} {m : Levels.Ghosts M} {D E : Type 0} (g : Ghosts D) (h : Ghosts E) where
-  module _ (model : Type 0) (old new : Core D E M m) (s : State) (after : Pages) (pid addr len : ℕ) (mode : MsyncMode) (chosen : Chosen) (shows : CoreShows g old s)
+  module _ (model : Type 0) (old new : Core D E M m) (s : State) (after : Contents) (pid addr len : ℕ) (mode : MsyncMode) (chosen : Chosen) (shows : CoreShows g old s)
       (same : TakesSame s pid addr len mode chosen) (takes : commits s (Msync pid addr len mode) ≡ Some after)
-      (store : StoreCommits g model (g.sector_count (disk_of old.store)) s.files s.durable (committed s pid same.first same.count s.durable) old.store new.store) where
+      (store : StoreCommits g model (g.sector_count (disk_of old.store)) s.durable (committed s pid same.first same.count s.durable) old.store new.store) where
     abbrev n : ℕ
     n = g.sector_count (disk_of old.store)
 
@@ -341,10 +343,10 @@ module _ {M : Type 0} {m : Levels.Ghosts M} {D E : Type 0} (g : Ghosts D) (h : G
           either = λ k m. store.either k m (shows.stands (store.kept k));
           most_moments = λ k. weaker g (disk_of old.store) (disk_of new.store) (SaysMostOf n (g.content (disk_of old.store))) (SaysMost n s.most) (says_most k) (store.most_moment k);
         } in
-        subst (λ (x : Pages). Commits g h model old new s x (Msync pid addr len mode) reply) (after_is s after pid addr len mode chosen same takes) done
+        subst (λ (x : Contents). Commits g h model old new s x (Msync pid addr len mode) reply) (after_is s after pid addr len mode chosen same takes) done
 
-    pub commit_done : (g.keeps_model (disk_of new.store) → model → LeavesNow g (disk_of old.store) (StandsFor (g.sector_count (disk_of old.store)) s.files s.durable)
-        → LeavesNow g (disk_of new.store) (StandsFor (g.sector_count (disk_of old.store)) s.files (committed s pid same.first same.count s.durable)))
+    pub commit_done : (g.keeps_model (disk_of new.store) → model → LeavesNow g (disk_of old.store) (StandsForContents (g.sector_count (disk_of old.store)) s.durable)
+        → LeavesNow g (disk_of new.store) (StandsForContents (g.sector_count (disk_of old.store)) (committed s pid same.first same.count s.durable)))
         → ShowsPages (picture_of new) (synced s pid same.first same.count) → IsSoundCore g h new
         → Commits g h model old new s after (Msync pid addr len mode) Done
     commit_done ok pages sound =
@@ -352,8 +354,9 @@ module _ {M : Type 0} {m : Levels.Ghosts M} {D E : Type 0} (g : Ghosts D) (h : G
         let t_is : t ≡ (msync_outcome s (Flat.msync_ruling s pid addr len mode)).state = sym (ap (λ (r : Flat.Ruling). (msync_outcome s r).state) same.ruling) in
         let now : model → CoreShows g new t = λ m. record {
           pages = pages;
+          files = shows.files;
           most = shows.most ∙ sym store.always;
-          stands = λ k c may. subst (λ (x : ℕ). StandsFor x s.files t.durable c) (sym store.size) (ok k m (shows.stands (store.kept k)) c may);
+          stands = λ k c may. subst (λ (x : ℕ). StandsForContents x t.durable c) (sym store.size) (ok k m (shows.stands (store.kept k)) c may);
           most_stands = most_stands;
         } in
         commit_ended Done (Acknowledged refl (subst (λ (x : State). ShowsPages (picture_of new) x) t_is pages) (subst (λ (x : State). model → CoreShows g new x) t_is now) sound)
@@ -362,16 +365,17 @@ module _ {M : Type 0} {m : Levels.Ghosts M} {D E : Type 0} (g : Ghosts D) (h : G
     commit_failed memory grew = commit_ended (Refused EIO) (Failed refl grew memory)
 
     pub commit_unread : KeepsMemory old new → h.failures old.swap.pages.disk < h.failures new.swap.pages.disk → ShowsPages (picture_of new) s → IsSoundCore g h new
-        → (g.keeps_model (disk_of new.store) → LeavesNow g (disk_of old.store) (StandsFor (g.sector_count (disk_of old.store)) s.files s.durable)
-        → LeavesNow g (disk_of new.store) (StandsFor (g.sector_count (disk_of old.store)) s.files s.durable))
-        → (g.keeps_model (disk_of new.store) → LeavesNow g (disk_of old.store) (StandsFor (g.sector_count (disk_of old.store)) s.files s.durable)
-        → LeavesOnly g (disk_of old.store) (disk_of new.store) (StandsFor (g.sector_count (disk_of old.store)) s.files s.durable))
+        → (g.keeps_model (disk_of new.store) → LeavesNow g (disk_of old.store) (StandsForContents (g.sector_count (disk_of old.store)) s.durable)
+        → LeavesNow g (disk_of new.store) (StandsForContents (g.sector_count (disk_of old.store)) s.durable))
+        → (g.keeps_model (disk_of new.store) → LeavesNow g (disk_of old.store) (StandsForContents (g.sector_count (disk_of old.store)) s.durable)
+        → LeavesOnly g (disk_of old.store) (disk_of new.store) (StandsForContents (g.sector_count (disk_of old.store)) s.durable))
         → Commits g h model old new s after (Msync pid addr len mode) (Stalled SwapDevice)
     commit_unread memory grew pages sound now moments =
         let still : CoreShows g new s = record {
           pages = pages;
+          files = shows.files;
           most = shows.most ∙ sym store.always;
-          stands = λ k c may. subst (λ (x : ℕ). StandsFor x s.files s.durable c) (sym store.size) (now k (shows.stands (store.kept k)) c may);
+          stands = λ k c may. subst (λ (x : ℕ). StandsForContents x s.durable c) (sym store.size) (now k (shows.stands (store.kept k)) c may);
           most_stands = most_stands;
         } in
         commit_ended (Stalled SwapDevice) (Unread refl grew memory still sound (λ k. moments k (shows.stands (store.kept k))))
@@ -383,6 +387,6 @@ module _ {M : Type 0} {m : Levels.Ghosts M} {D E : Type 0} (g : Ghosts D) (h : G
   end_under model more old new s pid addr len mode reply from (Failed is grew memory) = Failed is grew memory
   end_under model more old new s pid addr len mode reply from (Unread is grew memory shows sound moments) = Unread is grew memory shows sound moments
 
-  pub commits_under : (model more : Type 0) (old new : Core D E M m) (s : State) (after : Pages) (pid addr len : ℕ) (mode : MsyncMode) (reply : Reply) → (more → model)
+  pub commits_under : (model more : Type 0) (old new : Core D E M m) (s : State) (after : Contents) (pid addr len : ℕ) (mode : MsyncMode) (reply : Reply) → (more → model)
       → Commits g h model old new s after (Msync pid addr len mode) reply → Commits g h more old new s after (Msync pid addr len mode) reply
   commits_under model more old new s after pid addr len mode reply from c = let end = end_under model more old new s pid addr len mode reply from c.end in search rules

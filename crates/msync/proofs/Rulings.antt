@@ -48,20 +48,20 @@ module _ (touched : FilePage → Bool) (map : ℕ → Option Attr) (s : State) (
       (any-same (λ i. shares (s.views pid (first + i)) page.file page.page) (λ i. shares_page (map (first + i)) page) count (λ k. p.shared (first + k) page))
       )
 
-  taken_within : (first count : ℕ) → IsWithin touched 64 (2 ^ 20) → IsWithin (λ page. touched_in s pid first count page.file page.page) 64 (2 ^ 20)
+  taken_within : (first count : ℕ) → IsWithin touched 4096 (2 ^ 30) → IsWithin (λ page. touched_in s pid first count page.file page.page) 4096 (2 ^ 30)
   taken_within first count within = record {
     file = λ page e. within.file page (and_parts (touched page) (is_shared_in map first count page) (taken_is_chosen first count page ∙ e)).0;
     page = λ page e. within.page page (and_parts (touched page) (is_shared_in map first count page) (taken_is_chosen first count page ∙ e)).0;
   }
 
-  total_of : (first count : ℕ) → touched_count s pid first count ≡ total (λ page. touched_in s pid first count page.file page.page) 64 (2 ^ 20)
+  total_of : (first count : ℕ) → touched_count s pid first count ≡ total (λ page. touched_in s pid first count page.file page.page) 4096 (2 ^ 30)
   unfolding touched_count total
   total_of first count = refl
 
-  too_many : (first count : ℕ) (list : List FilePage) → IsWithin touched 64 (2 ^ 20) → OverflowsRow (is_chosen touched map first count) list 0
+  too_many : (first count : ℕ) (list : List FilePage) → IsWithin touched 4096 (2 ^ 30) → OverflowsRow (is_chosen touched map first count) list 0
       → length list < touched_count s pid first count
   too_many first count list within over =
-      let n = at_least (λ page. touched_in s pid first count page.file page.page) 64 (2 ^ 20) over.at (length list + 1) (taken_within first count within)
+      let n = at_least (λ page. touched_in s pid first count page.file page.page) 4096 (2 ^ 30) over.at (length list + 1) (taken_within first count within)
       (λ i less. sym (taken_is_chosen first count (over.at i)) ∙ over.each i (omega arith) (omega (arith, less)))
       (λ i j less high. over.once i j less (omega arith) (omega (arith, high))) in
       omega (arith, n, total_of first count)
@@ -72,12 +72,12 @@ module _ (touched : FilePage → Bool) (map : ℕ → Option Attr) (s : State) (
       lists_same (is_chosen touched map first count) (λ page. touched_in s pid first count page.file page.page) list n
       (λ page. taken_is_chosen first count page) f
 
-  count_of : (first count : ℕ) (list : List FilePage) (n : ℕ) → IsWithin touched 64 (2 ^ 20) → ListsTouched (is_chosen touched map first count) list n
+  count_of : (first count : ℕ) (list : List FilePage) (n : ℕ) → IsWithin touched 4096 (2 ^ 30) → ListsTouched (is_chosen touched map first count) list n
       → touched_count s pid first count ≡ n
   count_of first count list n within f =
       let l = same_lists first count list n f in
       total_of first count
-      ∙ exactly (λ page. touched_in s pid first count page.file page.page) 64 (2 ^ 20) (chosen_page list) n (taken_within first count within) l.each l.once l.all
+      ∙ exactly (λ page. touched_in s pid first count page.file page.page) 4096 (2 ^ 30) (chosen_page list) n (taken_within first count within) l.each l.once l.all
 
   -- covered rows
   covered_of : (first count : ℕ) → is_covered (attrs_of (s.views pid)) first count ≡ is_covered map first count
@@ -105,7 +105,7 @@ module _ (touched : FilePage → Bool) (map : ℕ → Option Attr) (s : State) (
       → msync_ruling s pid addr len mode ≡ row_ruling s pid (addr / 4096) (page_count len) mode
   ruled_row addr len mode aligned some covered = ruling_after addr len mode aligned some ∙ rw (covered_of (addr / 4096) (page_count len) ∙ covered) refl
 
-  pub ruled_sync : (addr len : ℕ) (list : List FilePage) (r : Ruling) → s.most ≡ length list → IsWithin touched 64 (2 ^ 20) → addr % 4096 ≡ 0 → len ≢ 0
+  pub ruled_sync : (addr len : ℕ) (list : List FilePage) (r : Ruling) → s.most ≡ length list → IsWithin touched 4096 (2 ^ 30) → addr % 4096 ≡ 0 → len ≢ 0
       → is_covered map (addr / 4096) (page_count len) ≡ true
       → IsRulingOn (is_chosen touched map (addr / 4096) (page_count len)) list r → RulesSame s pid addr len Sync list r
   ruled_sync addr len list (Refuses errno) most within aligned some covered choice =
@@ -149,20 +149,20 @@ taken_of c map pid addr len list (Takes taken) same choice = λ i less.
     sym (chosen_same (of_files c.touched) map (c.at pid) (addr / 4096) (page_count len) (chosen_page list i) same) ∙ choice.2.each i less
 taken_of c map pid addr len list r same choice = tt
 
--- touched pages are pages of files, of which there are 64, of fewer than 2 ^ 32 bytes
-in_journals : (d : Directory) (f : ℕ) (o : Option Entry) (info : FileInfo) → entry_of d f ≡ o → option_map (λ e. e.info) o ≡ Some info → (f < 64) × (info.length < 2 ^ 32)
+-- touched pages are pages of files, of which there are 4,096, of 2 ^ 42 bytes at most
+in_journals : (d : Directory) (f : ℕ) (o : Option Entry) (info : FileInfo) → entry_of d f ≡ o → option_map (λ e. e.info) o ≡ Some info → (f < 4096) × (info.length ≤ 2 ^ 42)
 in_journals d f None info is e = cc
-in_journals d f (Some x) info is e = let same : x.info ≡ info = cc in (d.numbers f x is, (let small = d.lengths f x is in omega (arith, small, ap (λ (i : FileInfo). i.length) same)))
+in_journals d f (Some x) info is e = let same : x.info ≡ info = cc in ((let few = d.numbers f x is in omega (arith, few)), (let small = d.lengths f x is in omega (arith, small, ap (λ (i : FileInfo). i.length) same)))
 
-in_pool : (d : PoolDirectory) (f : ℕ) (o : Option PoolEntry) (info : FileInfo) → pool_entry_of d f ≡ o → option_map info_of o ≡ Some info → (f < 64) × (info.length < 2 ^ 32)
+in_pool : (d : PoolDirectory) (f : ℕ) (o : Option PoolEntry) (info : FileInfo) → pool_entry_of d f ≡ o → option_map info_of o ≡ Some info → (f < 4096) × (info.length ≤ 2 ^ 42)
 in_pool d f None info is e = cc
 in_pool d f (Some x) info is e = let same : info_of x ≡ info = cc in (d.numbers f x is, (let small = d.lengths f x is in omega (arith, small, ap (λ (i : FileInfo). i.length) same)))
 
-in_file : (d : AnyDirectory) (f : ℕ) (info : FileInfo) → files_in d f ≡ Some info → (f < 64) × (info.length < 2 ^ 32)
+in_file : (d : AnyDirectory) (f : ℕ) (info : FileInfo) → files_in d f ≡ Some info → (f < 4096) × (info.length ≤ 2 ^ 42)
 in_file (inl d) f info is = in_journals d f (entry_of d f) info refl is
 in_file (inr d) f info is = in_pool d f (pool_entry_of d f) info refl is
 
-pub touched_within : {mode : ℕ} (c : Picture mode) (d : AnyDirectory) → IsFit c → ((f : ℕ) → c.files f ≡ files_in d f) → IsWithin (of_files c.touched) 64 (2 ^ 20)
+pub touched_within : {mode : ℕ} (c : Picture mode) (d : AnyDirectory) → IsFit c → ((f : ℕ) → c.files f ≡ files_in d f) → IsWithin (of_files c.touched) 4096 (2 ^ 30)
 touched_within c d fit files = record {
   file = λ p e. (let at = fit.places.inside (File p) (fit.dirty.held (File p) e) in (in_file d p.file at.0 (sym (files p.file) ∙ at.1)).0);
   page = λ p e. (

@@ -3,7 +3,7 @@ use Rattle.vm_types.specs.declared.mode.Levels as Levels
 use Rattle.std.specs.Prelude.{◌≡◌, ◌<◌, ℕ}
 use Rattle.disk_model.specs.Moments.{LeavesOnly}
 use Rattle.disk_model.specs.declared.sector_disk.SectorDisk.{Ghosts}
-use Rattle.stores.specs.Images.{StandsForEither, StandsFor}
+use Rattle.stores.specs.Images.{StandsForContents, StandsForEitherContents}
 use Rattle.swap.specs.Slots.{slots_of}
 use Rattle.vm_types.specs.declared.command.Command.{Command}
 use Rattle.vm_types.specs.declared.refusal.Errno.TheVariants.{EIO}
@@ -12,7 +12,7 @@ use Rattle.vm_types.specs.declared.reply.Reply.{Reply}
 use Rattle.vm_types.specs.declared.reply.Reply.TheVariants.{Done, Refused, Stalled}
 use Rattle.vm_types.specs.State.{State}
 use Rattle.vm_types.specs.Step.{outcome}
-use Rattle.vm_types.specs.View.{Pages}
+use Rattle.vm_types.specs.Files.{Contents}
 use Rattle.residency.specs.declared.kernel.Core.{Core}
 use Rattle.residency.specs.Picture.{picture_of}
 use Rattle.residency.specs.Shows.{ShowsPages}
@@ -45,16 +45,16 @@ module _ {M : Type 0} {m : Levels.Ghosts M} {D E : Type 0} (g : Ghosts D) (h : G
         → IsEnd given_back old new s command reply
     Failed : reply ≡ Refused EIO → g.failures (disk_of old.store) < g.failures (disk_of new.store) → KeepsMemory old new → IsEnd given_back old new s command reply
     Unread : reply ≡ Stalled SwapDevice → h.failures old.swap.pages.disk < h.failures new.swap.pages.disk → KeepsMemory old new → CoreShows g new s → IsSoundCore g h new
-        → (g.keeps_model (disk_of new.store) → LeavesOnly g (disk_of old.store) (disk_of new.store) (StandsFor (g.sector_count (disk_of old.store)) s.files s.durable))
+        → (g.keeps_model (disk_of new.store) → LeavesOnly g (disk_of old.store) (disk_of new.store) (StandsForContents (g.sector_count (disk_of old.store)) s.durable))
         → IsEnd given_back old new s command reply
 
   -- What an msync that makes pages durable comes to: at every moment a stop leaves the files as they were, or with all of
   -- those pages, as long as slots gave back what was put, and an msync may take as many pages as before.
-  pub record Commits (given_back : Type 0) (old new : Core D E M m) (s : State) (after : Pages) (command : Command) (reply : Reply) : Type 0 where
+  pub record Commits (given_back : Type 0) (old new : Core D E M m) (s : State) (after : Contents) (command : Command) (reply : Reply) : Type 0 where
     pub end : IsEnd given_back old new s command reply
     pub directory : directory_of new.store ≡ directory_of old.store
     pub size : g.sector_count (disk_of new.store) ≡ g.sector_count (disk_of old.store)
     pub kept : g.keeps_model (disk_of new.store) → g.keeps_model (disk_of old.store)
     pub either : g.keeps_model (disk_of new.store) → given_back
-        → LeavesOnly g (disk_of old.store) (disk_of new.store) (StandsForEither (g.sector_count (disk_of old.store)) s.files s.durable after)
+        → LeavesOnly g (disk_of old.store) (disk_of new.store) (StandsForEitherContents (g.sector_count (disk_of old.store)) s.durable after)
     pub most_moments : g.keeps_model (disk_of new.store) → LeavesOnly g (disk_of old.store) (disk_of new.store) (SaysMost (g.sector_count (disk_of old.store)) s.most)

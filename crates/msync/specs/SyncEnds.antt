@@ -4,7 +4,7 @@ use Rattle.std.specs.Prelude.{◌≡◌, ◌≢◌, ◌≤◌, ◌<◌, ◌⊎�
 use Rattle.vm_types.specs.Replies.{reply_of}
 use Rattle.vm_types.specs.State.{State}
 use Rattle.vm_types.specs.Step.{outcome, commits}
-use Rattle.vm_types.specs.View.{Pages}
+use Rattle.vm_types.specs.Files.{Contents}
 use Rattle.vm_types.specs.declared.command.Command.TheVariants.{Msync}
 use Rattle.vm_types.specs.declared.command.MsyncMode.{MsyncMode}
 use Rattle.vm_types.specs.declared.refusal.Errno.{Errno}
@@ -57,7 +57,7 @@ module _ {M : Type 0} {m : Levels.Ghosts M} {D E : Type 0} (g : Ghosts D) (h : G
   -- A commit of these pages:
   pub record CommitsListed (old new : Core D E M m) (chosen : Chosen) (result : Answer) : Type 0 where
     -- it makes durable what the flat model does, as long as slots gave back what was put;
-    pub commits : (s : State) (after : Pages) (pid addr len : ℕ) (mode : MsyncMode) → CoreShows g old s → commits s (Msync pid addr len mode) ≡ Some after
+    pub commits : (s : State) (after : Contents) (pid addr len : ℕ) (mode : MsyncMode) → CoreShows g old s → commits s (Msync pid addr len mode) ≡ Some after
         → TakesSame s pid addr len mode chosen
         → Commits g h (IsAway (picture_of old) chosen → h.keeps_model new.swap.pages.disk) old new s after (Msync pid addr len mode) (reply_of result)
     pub ends : EndsCommit (IsAway (picture_of old) chosen) old new result
@@ -73,7 +73,7 @@ module _ {M : Type 0} {m : Levels.Ghosts M} {D E : Type 0} (g : Ghosts D) (h : G
     pub passes : (s : State) → CoreShows g old s → commits s (Msync pid addr len mode) ≡ None
         → (reply_of result ≡ (outcome s (Msync pid addr len mode)).reply) × (new ≡ old)
     -- and else it commits those that it takes, at once;
-    pub commits : (s : State) (after : Pages) → CoreShows g old s → commits s (Msync pid addr len mode) ≡ Some after
+    pub commits : (s : State) (after : Contents) → CoreShows g old s → commits s (Msync pid addr len mode) ≡ Some after
         → Commits g h (GivesBack g h old new pid addr len) old new s after (Msync pid addr len mode) (reply_of result)
     pub ends : EndsCommit (TakesAway (picture_of old) pid addr len) old new result
     pub open ends use *

@@ -181,7 +181,7 @@ pub(crate) enum Request<'a> {
 /// file.
 #[derive(Clone, Copy, Debug, PartialEq, Eq)]
 pub(crate) struct Seen {
-    pub(crate) length: Option<u32>,
+    pub(crate) length: Option<u64>,
     pub(crate) bytes: [u8; 5],
 }
 
@@ -286,7 +286,7 @@ impl Client {
     }
 
     /// What is seen of a file.
-    fn seen(&mut self, rt: &impl Abort, image: &[[u8; 512]], file: u8) -> Seen {
+    fn seen(&mut self, rt: &impl Abort, image: &[[u8; 512]], file: u16) -> Seen {
         let mut seen = NO_FILE;
         let info = file_facts(self.alloc, image, self.scratch.lent(), file);
         if let Some(info) = info.expect(rt, "a store") {

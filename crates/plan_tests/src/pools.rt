@@ -83,7 +83,7 @@ impl Bench {
         let size = FileSize {
             file: 0,
             is_there: 1,
-            length: count.saturating_mul(4096),
+            length: u64::from(count) * 4096,
         };
         let updates = SizeUpdates {
             sizes: &[size],

@@ -12,7 +12,7 @@ use sync_plans::{ResizeRefusal, SizeUpdates};
 use vm_types::FilePage;
 
 /// A file of so many bytes.
-fn long(file: u32, length: u32) -> FileSize {
+fn long(file: u32, length: u64) -> FileSize {
     FileSize {
         file,
         is_there: 1,
@@ -29,7 +29,7 @@ fn gone(file: u32) -> FileSize {
     }
 }
 
-fn page(file: u8, page: u32) -> FilePage {
+fn page(file: u16, page: u32) -> FilePage {
     FilePage { file, page }
 }
 
@@ -53,7 +53,7 @@ fn store(rt: &(impl AllocGlobal + Abort)) -> SimDisk {
 }
 
 /// What is seen of a file of so many bytes.
-fn seen(length: u32, bytes: &[u8; 5]) -> Seen {
+fn seen(length: u64, bytes: &[u8; 5]) -> Seen {
     Seen {
         length: Some(length),
         bytes: *bytes,

@@ -359,7 +359,7 @@ module _ (n : ℕ) (directory : Directory) (on : IsDirectoryOn n directory) (cha
         put_new f k i below is here =
             let h : ℕ = new_home directory changes i in
             let page : FilePage = record { file = f; page = k } in
-            let homed = new_homed n directory on changes are i below in
+            let homed = new_homed n directory changes are i below in
             let has : HasHome now_entries f k h = subst (λ (p : FilePage). HasHome now_entries p.file p.page h) (same_Some homed.0 page (sym homed.1 ∙ is)) homed.2 in
             by_home f k h here has (λ at. ⊎_elim
             (λ (first : i < put). unslotted f k i first is here has at)

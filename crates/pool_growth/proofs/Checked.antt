@@ -16,7 +16,7 @@ use Rattle.pool_store.specs.{Files.{info_of}, Pools.{HaveBounds}, Store.{entry_o
 
 -- a file of a small number and length
 abbrev IsSmallFile : ℕ → Entry → Type 0
-IsSmallFile f e = (f < 64) × (e.length < 2 ^ 32)
+IsSmallFile f e = (f < 4096) × (e.length ≤ 2 ^ 42)
 
 small_if : (f : ℕ) (entry : Option Entry) → ((e : Entry) → entry ≡ Some e → IsSmallFile f e) → IfSome entry (IsSmallFile f)
 small_if f None small = tt

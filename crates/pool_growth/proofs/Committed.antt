@@ -61,7 +61,7 @@ module _ {D : Type 0} (store : PoolStore D) (changes : List Change) (list : List
   -- all, where slots are free for what is committed beside them, or none, where they are free for all of it;
   put_all_or_none : (put : ℕ) → put ≡ put_count store changes list → (put ≡ added_count (info_by store.directory) changes) ⊎ ((put ≡ 0) × (slot_count store.directory changes list 0 ≤ free))
   put_all_or_none put is = ⊎_elim
-      (λ more. inl (is ∙ cond-false takes 0 added (and_right (nat_le added 64) (nat_le all free) (lt-leb all free more))))
+      (λ more. inl (is ∙ cond-false takes 0 added (and_right (nat_le added 128) (nat_le all free) (lt-leb all free more))))
       (λ fit. ⊎_elim (λ yes. inr (is ∙ cond-true takes 0 added yes, fit)) (λ no. inl (is ∙ cond-false takes 0 added no)) (cases_Bool takes))
       (cases_lt free all)
 

@@ -1,10 +1,11 @@
 -- The new pages of changes, and their homes.
-use Rattle.std.proofs.Common.{ℕ, suc, ◌≡◌, ◌<◌, ◌≤◌, ◌+◌, ◌-◌, ◌*◌, ◌^◌, ⊎_elim, ◌∷◌, [], List, length, get_or, slice_get, eqb, ltb, refl, sym, ap, subst, ◌∙◌, arith, Bor, Option, Some, None}
-use Rattle.std.proofs.lemmas.Bool.{cases_eq, cases_lt, cond-true, cond-false, eq-eqb, ne_eqb, lt-ltb, le-ltb}
-use Rattle.std.proofs.lemmas.List.{get_or_past}
-use Rattle.std.proofs.lemmas.List.FromFn.{length-range_with_len}
+use Rattle.std.proofs.Common.{ℕ, suc, ◌≡◌, ◌≢◌, ◌<◌, ◌≤◌, ◌+◌, ◌-◌, ◌*◌, ◌^◌, ⊎_elim, ◌∷◌, [], List, length, map, get_or, slice_get, true, eqb, ltb, refl, sym, ap, subst, ◌∙◌, arith, Bor, Option, Some, None}
+use Rattle.std.proofs.lemmas.Bool.{cases_eq, cases_lt, cond-true, cond-false, eq-eqb, eqb-true, ne_eqb, lt-ltb, le-ltb, Decides.{Decides-eqb}}
+use Rattle.std.proofs.lemmas.List.{get_or_past, Folds.{Any-from_list_any}}
+use Rattle.std.proofs.lemmas.List.FromFn.{get_or-map-range_with_len, length-map-range_with_len, length-range_with_len}
+use Rattle.std.proofs.lemmas.Map.{Made.{IsDistinct-from_AllPairs}, Steps.{length-le_from_distinct_below}}
 use Rattle.std.proofs.lemmas.Option.{none-some, same_Some, get_or_from_slice_get, slice_get_within}
-use Rattle.std.specs.{List.{range_with_len}, Option.{option_copied, option_map}}
+use Rattle.std.specs.{List.{AllPairs, list_any, range_with_len}, Option.{option_copied, option_map}}
 use Rattle.vm_types.specs.declared.{file.FileInfo.{FileInfo}, file.FilePage.{FilePage}}
 use Rattle.directories.specs.{Homes.{extents_of, homes_of, home_of_page, HasHome}, Layouts.{entry_in, IsHomeIn}, declared.entry.Entry.{Entry}, declared.entry.Extent.{Extent}}
 use Rattle.directories.proofs.{Owned.{gives_homes}, Places.{get_left, get_right, get_counted}}
@@ -132,25 +133,25 @@ page_once files (c ∷ cs) i j p rise one two = ⊎_elim
     (cases_lt j (added files c)))
     (cases_lt i (added files c))
 
--- Entries of files whose numbers are below 64, and whose lengths are of four bytes: they add few pages.
+-- Entries of files whose numbers are below 4,096, and whose lengths are 2 ^ 42 at most: they add few pages.
 abbrev IsSmall : ℕ → Option Entry → Type 0
-IsSmall f entry = (e : Entry) → entry ≡ Some e → (f < 64) × (e.length < 2 ^ 32)
+IsSmall f entry = (e : Entry) → entry ≡ Some e → (f < 4096) × (e.length ≤ 2 ^ 42)
 
-entry_small : (f : ℕ) (entry : Option Entry) → IsSmall f entry → (file_page_count (option_map info_of entry) ≤ 2 ^ 20) × (0 < file_page_count (option_map info_of entry) → f < 64)
+entry_small : (f : ℕ) (entry : Option Entry) → IsSmall f entry → (file_page_count (option_map info_of entry) ≤ 2 ^ 30) × (0 < file_page_count (option_map info_of entry) → f < 4096)
 entry_small f None small = (omega arith, λ some. absurd (omega (arith, some)))
 entry_small f (Some e) small =
     let length = (small e refl).1 in
     (omega (arith, length), λ _. (small e refl).0)
 
 count_small : (files : ℕ → Option FileInfo) (changes : List Change) (b : ℕ) → Rise changes → ((i : ℕ) (c : Change) → slice_get changes i ≡ Some c → (b ≤ c.file) × IsSmall c.file c.entry)
-    → added_count files changes ≤ 2 ^ 20 * (64 - b)
+    → added_count files changes ≤ 2 ^ 30 * (4096 - b)
 count_small files [] b rise small = omega arith
 count_small files (c ∷ cs) b rise small =
     let own = small 0 c refl in
     let low = own.0 in
     let one = entry_small c.file c.entry own.1 in
     let most = one.0 in
-    let rest : added_count files cs ≤ 2 ^ 20 * (64 - (b + 1)) = count_small files cs (b + 1) (rest_rise c cs rise)
+    let rest : added_count files cs ≤ 2 ^ 30 * (4096 - (b + 1)) = count_small files cs (b + 1) (rest_rise c cs rise)
     (λ i d is. let less = first_least c cs i d rise is in (omega (arith, less, low), (small (suc i) d is).1)) in
     ⊎_elim
     (λ (some : 0 < added files c). let file = one.1 (omega (arith, some)) in omega (arith, file, low, most, rest))
@@ -227,12 +228,12 @@ module _ (n : ℕ) (directory : Directory) (changes : List Change) (are : AreFil
   pub info_changed : (i : ℕ) (c : Change) → slice_get changes i ≡ Some c → files_after (info_by directory) changes c.file ≡ option_map info_of c.entry
   info_changed i c is = info_later c.file ∙ ap (option_map info_of) (entry_changed i c is)
 
-  -- a file of a number below 64, and a length of four bytes.
-  pub change_small : (i : ℕ) (c : Change) (e : Entry) → slice_get changes i ≡ Some c → c.entry ≡ Some e → (c.file < 64) × (e.length < 2 ^ 32)
+  -- a file of a number below 4,096, and a length of 2 ^ 42 at most.
+  pub change_small : (i : ℕ) (c : Change) (e : Entry) → slice_get changes i ≡ Some c → c.entry ≡ Some e → (c.file < 4096) × (e.length ≤ 2 ^ 42)
   change_small i c e is some = let bound = are.may.bounded c.file e (entry_changed i c is ∙ some) in (bound.0, bound.1)
 
-  -- So new pages are few.
-  pub added_few : added_count (info_by directory) changes ≤ 2 ^ 26
+  -- So new pages can be counted.
+  pub added_few : added_count (info_by directory) changes ≤ 2 ^ 42
   added_few =
       let most = count_small (info_by directory) changes 0 are.changes.rising (λ i c is. (omega arith, λ e some. change_small i c e is some)) in
       omega (arith, most)
@@ -258,7 +259,7 @@ module _ (n : ℕ) (directory : Directory) (changes : List Change) (are : AreFil
       (of.behind, omega (arith, then', within), of.below)
 
   -- Its numbers are small.
-  pub new_small : (i : ℕ) (p : FilePage) → new_page (info_by directory) changes i ≡ Some p → (p.file < 64) × (p.page < 2 ^ 20)
+  pub new_small : (i : ℕ) (p : FilePage) → new_page (info_by directory) changes i ≡ Some p → (p.file < 4096) × (p.page < 2 ^ 30)
   new_small i p is =
       let there : p.page < file_page_count (files_after (info_by directory) changes p.file) = (page_behind_last i p is).1 in
       let some = some_pages (entry_in (entries_then directory changes) p.file) p.page (subst (λ o. p.page < file_page_count o) (info_later p.file) there) in
@@ -290,6 +291,55 @@ module _ (n : ℕ) (directory : Directory) (changes : List Change) (are : AreFil
       let has = home_by_entry p found e f k home there file is some page at in
       subst (λ g. g < n) (same_Some has.0 h (sym has.1 ∙ this)) has.2
 
+  -- A new page has a home,
+  pub new_homed : (i : ℕ) → i < added_count (info_by directory) changes → (p : FilePage) × (new_page (info_by directory) changes i ≡ Some p) × HasHome (entries_then directory changes) p.file p.page (new_home directory changes i)
+  new_homed i below =
+      let there = page_there (info_by directory) changes i below in
+      let p = there.0 in
+      let home = later_homed p.file p.page (page_behind_last i p there.1).1 in
+      let same : new_home directory changes i ≡ home.0 = ap (λ q. number_of (home_then directory changes q)) there.1 ∙ ap number_of (home_is p home.0 home.1) in
+      (p, there.1, subst (λ h. HasHome (entries_then directory changes) p.file p.page h) (sym same) home.1)
+
+  -- of the device and not of the directory,
+  pub new_within : (i : ℕ) → i < added_count (info_by directory) changes → (directory.pages ≤ new_home directory changes i) × (new_home directory changes i < n)
+  new_within i below =
+      let has = new_homed i below in
+      (gives_homes directory.pages n (entries_then directory changes) are.may.good).within has.0.file has.0.page (new_home directory changes i) has.2
+
+  -- and no other has then.
+  pub new_own : (i f k : ℕ) → i < added_count (info_by directory) changes → HasHome (entries_then directory changes) f k (new_home directory changes i) → new_page (info_by directory) changes i ≡ Some (record { file = f; page = k })
+  new_own i f k below home =
+      let has = new_homed i below in
+      let same = (gives_homes directory.pages n (entries_then directory changes) are.may.good).apart has.0.file has.0.page f k (new_home directory changes i) has.2 home in
+      has.1 ∙ ap Some (same_page has.0 (record { file = f; page = k }) same.0 same.1)
+
+  -- of its own,
+  pub new_apart : (i j : ℕ) → i < added_count (info_by directory) changes → j < added_count (info_by directory) changes → new_home directory changes i ≡ new_home directory changes j → i ≡ j
+  new_apart i j one two same =
+      let other = new_homed j two in
+      page_once (info_by directory) changes i j other.0 are.changes.rising (new_own i other.0.file other.0.page one (subst (λ h. HasHome (entries_then directory changes) other.0.file other.0.page h) (sym same) other.2)) other.1
+
+  -- so that they are no more than the device's homes,
+  pub added_homes : added_count (info_by directory) changes ≤ n
+  added_homes =
+      let home : ℕ → ℕ = new_home directory changes in
+      let count = added_count (info_by directory) changes in
+      let homes : List ℕ = map home (range_with_len 0 count) in
+      let long : length homes ≡ count = length-map-range_with_len home 0 count in
+      let at : (i d : ℕ) → i < count → get_or homes i d ≡ home i = λ i d below. get_or-map-range_with_len home 0 count i i d below (omega arith) in
+      let apart : AllPairs (λ x y. x ≢ y) homes = λ i j d less inside same.
+      let last : j < count = omega (arith, inside, long) in
+      let first : i < count = omega (arith, less, last) in
+      let one = new_apart i j first last (sym (at i d first) ∙ same ∙ at j d last) in omega (arith, one, less) in
+      let below : (h : ℕ) → list_any (eqb h) homes ≡ true → h < n = λ h is.
+      let found = Any-from_list_any (eqb h) homes is in
+      let first : found.0 < count = (let inside = found.2 in omega (arith, inside, long)) in
+      let number = at found.0 found.1 first in
+      let same = found.3 in
+      let equal = eqb-true h found.1 found.4 in
+      let within = (new_within found.0 first).1 in omega (arith, number, same, equal, within) in
+      subst (λ k. k ≤ n) long (length-le_from_distinct_below homes n (IsDistinct-from_AllPairs Decides-eqb homes apart) below)
+
 -- Changes of a directory:
 module _ (n : ℕ) (directory : Directory) (on : IsDirectoryOn n directory) (changes : List Change) (are : AreFileChanges n directory changes) where
   abbrev pub files : ℕ → Option FileInfo
@@ -317,38 +367,10 @@ module _ (n : ℕ) (directory : Directory) (on : IsDirectoryOn n directory) (cha
   pub new_once : (i j : ℕ) (p : FilePage) → new_page files changes i ≡ Some p → new_page files changes j ≡ Some p → i ≡ j
   new_once i j p one two = page_once files changes i j p are.changes.rising one two
 
-  -- It has a home,
-  pub new_homed : (i : ℕ) → i < added_count files changes → (p : FilePage) × (new_page files changes i ≡ Some p) × HasHome (entries_then directory changes) p.file p.page (new_home directory changes i)
-  new_homed i below =
-      let there = new_there i below in
-      let p = there.0 in
-      let home = later_homed n directory changes are p.file p.page (new_behind i p there.1).1 in
-      let same : new_home directory changes i ≡ home.0 = ap (λ q. number_of (home_then directory changes q)) there.1 ∙ ap number_of (home_is n directory changes are p home.0 home.1) in
-      (p, there.1, subst (λ h. HasHome (entries_then directory changes) p.file p.page h) (sym same) home.1)
-
-  -- of the device and not of the directory,
-  pub new_within : (i : ℕ) → i < added_count files changes → (directory.pages ≤ new_home directory changes i) × (new_home directory changes i < n)
-  new_within i below =
-      let has = new_homed i below in
-      (gives_homes directory.pages n (entries_then directory changes) are.may.good).within has.0.file has.0.page (new_home directory changes i) has.2
-
-  -- and no other has then.
-  pub new_own : (i f k : ℕ) → i < added_count files changes → HasHome (entries_then directory changes) f k (new_home directory changes i) → new_page files changes i ≡ Some (record { file = f; page = k })
-  new_own i f k below home =
-      let has = new_homed i below in
-      let same = (gives_homes directory.pages n (entries_then directory changes) are.may.good).apart has.0.file has.0.page f k (new_home directory changes i) has.2 home in
-      has.1 ∙ ap Some (same_page has.0 (record { file = f; page = k }) same.0 same.1)
-
-  -- of its own,
-  pub new_apart : (i j : ℕ) → i < added_count files changes → j < added_count files changes → new_home directory changes i ≡ new_home directory changes j → i ≡ j
-  new_apart i j one two same =
-      let other = new_homed j two in
-      new_once i j other.0 (new_own i other.0.file other.0.page one (subst (λ h. HasHome (entries_then directory changes) other.0.file other.0.page h) (sym same) other.2)) other.1
-
-  -- which no page had before,
+  -- A home of a new one no page had before,
   pub new_free : (i f k : ℕ) → i < added_count files changes → k < file_page_count (files f) → HasHome directory.entries.items f k (new_home directory changes i) → ⊥
   new_free i f k below there home =
-      let has = new_homed i below in
+      let has = new_homed n directory changes are i below in
       let p = has.0 in
       let h = new_home directory changes i in
       let behind = (new_behind i p has.1).0 in
@@ -364,7 +386,7 @@ module _ (n : ℕ) (directory : Directory) (on : IsDirectoryOn n directory) (cha
   pub home_of_new : (i : ℕ) (p : FilePage) → new_page files changes i ≡ Some p → home_then directory changes (Some p) ≡ Some (new_home directory changes i)
   home_of_new i p is =
       let below = (new_behind i p is).2 in
-      let has = new_homed i below in
+      let has = new_homed n directory changes are i below in
       let same : has.0 ≡ p = same_Some has.0 p (sym has.1 ∙ is) in
       home_is n directory changes are p (new_home directory changes i) (subst (λ (q : FilePage). HasHome (entries_then directory changes) q.file q.page (new_home directory changes i)) same has.2)
 
@@ -375,7 +397,7 @@ module _ (n : ℕ) (directory : Directory) (on : IsDirectoryOn n directory) (cha
   -- nor is one of the directory's
   pub front_not_new : (h : ℕ) → h < directory.pages → IsNewHome directory changes h → ⊥
   front_not_new h below new =
-      let within = (new_within new.0 new.1).0 in
+      let within = (new_within n directory changes are new.0 new.1).0 in
       let same = new.2 in
       omega (arith, below, within, same)
 
@@ -393,5 +415,5 @@ module _ (n : ℕ) (directory : Directory) (on : IsDirectoryOn n directory) (cha
   -- and this is none of a new one
   pub kept_not_new : (f k h : ℕ) → k < file_page_count (later f) → (IsNewPage files changes f k → ⊥) → HasHome (entries_then directory changes) f k h → IsNewHome directory changes h → ⊥
   kept_not_new f k h below old home new =
-      let own = new_own new.0 f k new.1 (subst (λ g. HasHome (entries_then directory changes) f k g) (sym new.2) home) in
+      let own = new_own n directory changes are new.0 f k new.1 (subst (λ g. HasHome (entries_then directory changes) f k g) (sym new.2) home) in
       old (new.0, record { file = f; page = k }, own, refl, refl)

@@ -219,7 +219,7 @@ module _ (journal : PoolJournal) (directory : Directory) (on : IsDirectoryOn jou
 
   -- each stands in sectors of a home of its own,
   pub put_home : (k : ℕ) → IsPut count k → (h : ℕ) × IsNewHome directory changes h × (h < n) × IsPageSector (at_home m names h) k
-  put_home k put = (new_home directory changes put.0, (put.0, put.1, refl), (new_within n directory on changes are put.0 put.1).1, put.2)
+  put_home k put = (new_home directory changes put.0, (put.0, put.1, refl), (new_within n directory changes are put.0 put.1).1, put.2)
 
   -- which are a block,
   pub put_whole : (k j : ℕ) → IsSameBlock k j → IsPut count j → IsPut count k
@@ -228,7 +228,7 @@ module _ (journal : PoolJournal) (directory : Directory) (on : IsDirectoryOn jou
   -- and in no other's.
   pub two_new : (i j k : ℕ) → i < j → j < count → IsPageSector (at i) k → IsPageSector (at j) k → ⊥
   two_new i j k less below first second =
-      let same = new_apart n directory on changes are i j (omega (arith, less, below)) below (one_home m names (new_home directory changes i) (new_home directory changes j) k first second) in
+      let same = new_apart n directory changes are i j (omega (arith, less, below)) below (one_home m names (new_home directory changes i) (new_home directory changes j) k first second) in
       omega (arith, same, less)
 
   -- One more is written.

@@ -85,7 +85,7 @@ module _ (before : List (Option Entry)) (room : Homes) where
   -- File f gets this entry, after these changes:
   record IsSized (done : List Change) (f : ℕ) (e : Entry) : Type 0 where
     bytes : ℕ
-    short : e.length < 2 ^ 32
+    short : e.length ≤ 2 ^ 42
     resized : IsResized before done (was f) bytes room e
     stays : StaysHome (was f) e
 
@@ -153,7 +153,7 @@ module _ (before : List (Option Entry)) (room : Homes) where
           omega (arith, one, two, rise);
       inside = λ i d inside.
           let file = file_there i d inside in
-          let place = (are.inside i no_size (omega (arith, inside, all))).0 in
+          let place = (are.inside i no_size (omega (arith, inside, all))).place in
           omega (arith, file, place);
       few = λ i d inside.
           let c = get_or changes i d in
@@ -165,8 +165,8 @@ module _ (before : List (Option Entry)) (room : Homes) where
     all_small are i d inside =
         let c = get_or changes i d in
         let file = file_there i d inside in
-        let number = (are.inside i no_size (omega (arith, inside, all))).1 in
-        if_some (λ (e : Entry). (c.file < file_limit) × (e.length < 2 ^ 32)) c.entry
+        let number = (are.inside i no_size (omega (arith, inside, all))).number in
+        if_some (λ (e : Entry). (c.file < file_limit) × (e.length ≤ 2 ^ 42)) c.entry
         (λ e entry. (omega (arith, file, number), (gets i c e (slice_get-get_or changes i d inside) entry).short))
 
     -- whose new extents are free runs, one of each change at most,

@@ -39,5 +39,5 @@ module _ (changes : List Change) (i : ℕ) (inside : i < length changes) where
 
   -- its numbers are small
   pub small_here : (n : ℕ) (directory : Directory) → AreFileChanges n directory changes → (at left : ℕ) → new_page (info_by directory) changes at ≡ new_page (info_by directory) (drop i changes) left
-      → left < added (info_by directory) this → (this.file < 64) × (file_page_count (info_by directory this.file) + left < 2 ^ 20)
+      → left < added (info_by directory) this → (this.file < 4096) × (file_page_count (info_by directory this.file) + left < 2 ^ 30)
   small_here n directory are at left same less = new_small n directory changes are at (record { file = this.file; page = file_page_count (info_by directory this.file) + left }) (same ∙ page_here (info_by directory) left less)

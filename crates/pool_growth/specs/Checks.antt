@@ -1,8 +1,8 @@
 -- What is found of changes and pages one by one.
-use Rattle.std.specs.Prelude.{ℕ, ◌+◌, ◌*◌, ◌/◌, ◌%◌, ◌^◌, ◌<◌, ◌≤◌, ◌≡◌, ◌⊎◌, List, length, slice_get, Option, Some, IfSome, min, take}
+use Rattle.std.specs.Prelude.{ℕ, ◌+◌, ◌*◌, ◌/◌, ◌%◌, ◌<◌, ◌≤◌, ◌≡◌, ◌⊎◌, List, length, slice_get, Option, Some, IfSome, min, take}
 use Rattle.std.specs.List.{All, AllPairs}
 use Rattle.std.specs.Option.{option_map}
-use Rattle.vm_types.specs.Limits.{file_limit}
+use Rattle.vm_types.specs.Limits.{file_limit, longest_file}
 use Rattle.vm_types.specs.declared.{file.FileInfo.{FileInfo}, file.FilePage.{FilePage}}
 use Rattle.directories.specs.{Homes.{homes_of, HasHome}, Layouts.{entry_in}}
 use Rattle.directories.specs.declared.entry.Entry.{Entry}
@@ -17,9 +17,9 @@ use Rattle.pool_journal.specs.{Journal.{free_count}, Maps.{entries_of}}
 use Rattle.pool_store.specs.{Files.{info_of}, Store.{entry_of, info_by}}
 use Rattle.pool_store.specs.declared.{directory.Directory.{Directory}, store.PoolStore.{PoolStore}}
 
--- a file that a change gives has a number below 64 and a length of four bytes
+-- a file that a change gives has a number below 4,096, and 2 ^ 42 bytes at most
 abbrev pub IsSmallChange : Change → Type 0
-IsSmallChange c = IfSome c.entry (λ e. (c.file < file_limit) × (e.length < 2 ^ 32))
+IsSmallChange c = IfSome c.entry (λ e. (c.file < file_limit) × (e.length ≤ longest_file))
 
 -- the homes of the extents in front that are the same before and after
 abbrev pub kept_home_count : Option Entry → Option Entry → ℕ

@@ -17,9 +17,9 @@ late_count files changes list put = added_count files changes + length list - pu
 abbrev pub slot_count : Directory → List Change → List FilePage → ℕ → ℕ
 slot_count directory changes list put = late_count (info_by directory) changes list put + length (changed_pages changes directory.pages)
 
--- new pages go into slots: they are no more than 64, and slots are free for all of the commit
+-- new pages go into slots: they are no more than 128, and slots are free for all of the commit
 abbrev pub take_slots : {D : Type 0} → PoolStore D → List Change → List FilePage → Bool
-take_slots store changes list = nat_le (added_count (files_of store) changes) 64
+take_slots store changes list = nat_le (added_count (files_of store) changes) 128
     && nat_le (slot_count store.directory changes list 0) (free_count store.journal.sizes.blocks (entries_of store.journal.map))
 
 -- how many new pages are put where they are to stand: none, where they go into slots, and otherwise all

@@ -1,7 +1,7 @@
 -- Files that get lengths, come or go, as a caller says it who leaves their extents open.
-use Rattle.std.specs.Prelude.{ℕ, ◌<◌, ◌≤◌, ◌≡◌, ◌≢◌, ◌^◌, ◌==◌, Bool, false, List, [], length, map, replicate, take, slice_get, Option, Some, None, if◌then◌else◌}
+use Rattle.std.specs.Prelude.{ℕ, ◌<◌, ◌≤◌, ◌≡◌, ◌≢◌, ◌==◌, Bool, false, List, [], length, map, replicate, take, slice_get, Option, Some, None, if◌then◌else◌}
 use Rattle.std.specs.{List.{All, AllPairs}, Option.{option_map}}
-use Rattle.vm_types.specs.{Limits.{file_limit}, declared.file.{FileInfo.{FileInfo}, FilePage.{FilePage}}}
+use Rattle.vm_types.specs.{Limits.{file_limit, longest_file}, declared.file.{FileInfo.{FileInfo}, FilePage.{FilePage}}}
 use Rattle.directories.specs.{Homes.{pages_of_length}, Layouts.{entry_in}, declared.entry.Entry.{Entry}}
 use Rattle.growth.specs.{Resizing.{IsResized, StaysHome}, Room.{HasNoRoom}}
 use Rattle.growth.specs.declared.{changes.Change.{Change}, room.Homes.{Homes}}
@@ -35,12 +35,18 @@ files_sized files sizes = files_after files (changes_to files sizes)
 abbrev pub SizesFiles : (ℕ → Option FileInfo) → List FileSize → List FilePage → (ℕ → List ℕ) → (ℕ → ℕ → List ℕ) → (ℕ → ℕ → List ℕ) → Type 0
 SizesFiles files sizes list given before after = ChangesFiles files (changes_to files sizes) list given before after
 
--- Sizes may be asked of a directory with so many entries:
+-- A size may be asked of a directory with so many entries: its file has its place in it, and a number below 4,096, and is no longer than a file may be, unless it goes.
+pub record IsSizeFor (entries : ℕ) (s : FileSize) : Type 0 where
+  pub place : s.file < entries
+  pub number : s.file < file_limit
+  pub short : s.is_there ≢ 0 → s.length ≤ longest_file
+
+-- Sizes may be asked of it:
 pub record AreSizes (entries : ℕ) (sizes : List FileSize) : Type 0 where
   -- their files rise,
   pub rising : AllPairs (λ s t. s.file < t.file) sizes
-  -- and each has its place in it, and a number below 64.
-  pub inside : All (λ s. (s.file < entries) × (s.file < file_limit)) sizes
+  -- and each of them may.
+  pub inside : All (IsSizeFor entries) sizes
 
 -- the entry of a file, or of one that is not there one of no extents
 abbrev pub entry_or_empty : Option Entry → Entry
@@ -54,7 +60,7 @@ pub record IsProposed (entries : List (Option Entry)) (room : Homes) (done : Lis
   -- which goes,
   pub gone : s.is_there ≡ 0 → c.entry ≡ None
   -- or gets the length, with room that neither any file had nor those changes give; and a page that it keeps keeps its home.
-  pub there : s.is_there ≢ 0 → (now : Entry) × (c.entry ≡ Some now) × (now.length < 2 ^ 32)
+  pub there : s.is_there ≢ 0 → (now : Entry) × (c.entry ≡ Some now) × (now.length ≤ longest_file)
       × IsResized entries done (entry_or_empty (entry_in entries s.file)) s.length room now × StaysHome (entry_or_empty (entry_in entries s.file)) now
 
 -- These are the changes for the first of these sizes, as many as they are.

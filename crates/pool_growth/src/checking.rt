@@ -19,7 +19,7 @@ use directories::{Entry, Extent};
 use disk_model::SectorDisk;
 use growth::{Change, are_changes};
 use pool_store::{Directory, PoolStore};
-use vm_types::{FILES, FilePage, PAGE_BYTES};
+use vm_types::{FILES, FilePage, LONGEST_FILE, PAGE_BYTES};
 
 /// Whether a commit takes these changes of a store's files: the directory may be so afterwards, each new extent takes homes that no extent had, and
 /// each page that a file keeps has the home that it had.
@@ -53,7 +53,7 @@ pub fn check_changes<D: SectorDisk>(
     Ok(())
 }
 
-/// The first file of these changes whose number is over 63, or whose length no number of four bytes.
+/// The first file of these changes whose number is over 4,095, or whose length over 2^42.
 fn find_large(changes: &[Change]) -> Option<u32>
     ensures { MatchOption result (All IsSmallChange changes.now) (HasBadChange IsSmallChange changes.now) }
 {
@@ -65,13 +65,13 @@ fn find_large(changes: &[Change]) -> Option<u32>
     None
 }
 
-/// Whether the file that a change gives has a number below 64, and a length of four bytes.
+/// Whether the file that a change gives has a number below 4,096, and 2^42 bytes at most.
 fn is_small(change: &Change) -> bool
     ensures all { IsTrue result → IsSmallChange change.now }
     ensures one { IsFalse result → IsSmallChange change.now → ⊥ }
 {
     match &change.entry {
-        Some(entry) => (change.file as usize) < FILES && entry.length <= u64::from(u32::MAX),
+        Some(entry) => (change.file as usize) < FILES && entry.length <= LONGEST_FILE,
         None => true,
     }
 }

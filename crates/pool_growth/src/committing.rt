@@ -19,7 +19,7 @@ use sync_journal::{CommitFault, PageSource};
 /// Makes changes of files durable, and pages of theirs, all at once. The source gives first the new pages, which are those behind the last one that their file had, in
 /// the order of the changes, and then those of the list; each becomes zeros past its file's new end. A page that is neither is what it was.
 ///
-/// The changes are such as `check_changes` takes, and the pages such as `check_pages` takes. Where there are 64 new pages at most, and these, those of the list and the
+/// The changes are such as `check_changes` takes, and the pages such as `check_pages` takes. Where there are 128 new pages at most, and these, those of the list and the
 /// changed ones of the directory are no more than the slots that are free, all of them go into slots, and it takes 2 syncs. Otherwise the new ones are put where they are
 /// to stand, and it takes 3.
 ///

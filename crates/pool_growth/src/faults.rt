@@ -11,7 +11,7 @@ use vm_types::FilePage;
 pub enum BadChanges {
     /// The files of the changes don't rise, or one of them has no place in the directory or over 30 extents.
     Form,
-    /// This file's number is over 63, or its length no number of four bytes.
+    /// This file's number is over 4,095, or its length over 2^42.
     Large(u32),
     /// The directory would be bad, or a new extent has a home that is not free.
     Homes(ChangeFault),
@@ -35,7 +35,7 @@ pub enum BadPages {
 /// Why no changes of files are proposed for sizes.
 #[derive(Clone, Copy, Debug, PartialEq, Eq)]
 pub enum BadSizes {
-    /// The files of the sizes don't rise, or one of them has no place in the directory, or a number over 63.
+    /// The files of the sizes don't rise, or one of them has no place in the directory or a number over 4,095, or is to be longer than 2^42.
     Form,
     /// This file has 30 extents, and needs more homes, or there are not as many free ones in a row as it lacks.
     NoHomes(u32),

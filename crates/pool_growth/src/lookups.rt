@@ -118,7 +118,7 @@ pub(crate) fn new_page(directory: &Directory, changes: &[Change], i: usize) -> F
         if left < count {
             let before = pages_of(directory.entry(change.file as usize));
             return FilePage {
-                file: change.file as u8,
+                file: change.file as u16,
                 page: (before + left) as u32,
             };
         }

@@ -1,8 +1,11 @@
 //! New pages, written where they are to stand.
-ghost use Rattle.std.specs.Prelude.{◌≡◌, ◌<◌, ◌≤◌, ℕ};
+ghost use Rattle.std.specs.Prelude.{◌≡◌, ◌<◌, ◌≤◌, ◌^◌, ℕ, None};
 ghost use Rattle.pool_growth.specs.Asked.{AreFileChanges};
 ghost use Rattle.pool_growth.specs.Files.{added_count};
 ghost use Rattle.pool_growth.specs.Putting.{HoldsNewPages, IsPutSector, PutsNewPages};
+ghost use Rattle.pool_journal.specs.Journal.{IsPoolJournal};
+ghost use Rattle.pool_journal.specs.Maps.{entries_of};
+ghost use Rattle.pool_journal.specs.Pools.{pool_home, pool_stands, slot_by};
 ghost use Rattle.pool_store.specs.Store.{info_by, IsPoolOf};
 ghost use Rattle.sync_journal.specs.Steps.{FillsBody};
 
@@ -59,13 +62,30 @@ fn write_new_pages<D: SectorDisk, S: PageSource>(
         (IsPutSector journal.now directory.now pages.entry.changes.now pages.entry.count)
         (HoldsNewPages journal.now directory.now pages.entry.changes.now (S.pages source.old) pages.entry.count (D.content disk.new)) disk.old disk.new source.old source.new result }
 {
+    let given = journal.homes_given();
     let mut bytes = [0; 4096];
     for i in 0..pages.count {
         let page = new_page(directory, pages.changes, i);
         source.page(i, &mut bytes)?;
         trim(&mut bytes, inside_then(directory, pages.changes, page));
         let home = home_then(directory, pages.changes, page);
-        write_page(disk, journal.stands_at(home), &bytes)?;
+        write_page(disk, stands_at(journal, given, home), &bytes)?;
     }
     Ok(())
+}
+
+/// The first sector of the page that stands for a home, where those from `given` on have no slots. New pages mostly have such homes, for which the map is not looked
+/// through.
+fn stands_at(journal: &PoolJournal, given: u32, home: u32) -> u64
+    requires is { IsPoolJournal journal.now }
+    requires home { home < 2 ^ 30 }
+    requires none { (h : ℕ) → given ≤ h → slot_by journal.now.sizes.blocks (entries_of journal.now.map) h ≡ None }
+    ensures at { result ≡ pool_stands journal.now.sizes.blocks home (slot_by journal.now.sizes.blocks (entries_of journal.now.map) home) }
+    ensures inside { result ≤ pool_home journal.now.sizes.blocks home }
+{
+    if home < given {
+        journal.stands_at(home)
+    } else {
+        journal.sizes().home(home)
+    }
 }

@@ -4,9 +4,9 @@ ghost use Rattle.std.specs.List.{AllPairs, All};
 ghost use Rattle.directories.specs.Homes.{pages_of_length};
 ghost use Rattle.directories.specs.Layouts.{entry_in};
 ghost use Rattle.growth.specs.Room.{HasNoRoom};
-ghost use Rattle.pool_growth.specs.Sizes.{entry_or_empty, room_behind, AreSizes, AreSizesRefused, IsProposed, ProposesChanges};
+ghost use Rattle.pool_growth.specs.Sizes.{entry_or_empty, room_behind, AreSizes, AreSizesRefused, IsSizeFor, IsProposed, ProposesChanges};
 ghost use Rattle.pool_store.specs.Store.{IsReadyPool};
-ghost use Rattle.vm_types.specs.Limits.{file_limit};
+ghost use Rattle.vm_types.specs.Limits.{longest_file};
 
 use crate::faults::BadSizes;
 use crate::sizes::FileSize;
@@ -15,7 +15,7 @@ use disk_model::SectorDisk;
 use growth::{Change, Homes, resize};
 use pool_store::{Directory, PoolStore};
 use std::alloc::Global;
-use vm_types::FILES;
+use vm_types::{FILES, LONGEST_FILE};
 
 /// An entry of no extents.
 const EMPTY: Entry = Entry {
@@ -66,7 +66,8 @@ fn change_for(
     size: &FileSize,
     room: Homes,
 ) -> Option<Change>
-    requires { length directory.now.entries.items ≤ 4096 }
+    requires places { length directory.now.entries.items ≤ 4096 }
+    requires short { size.now.is_there ≢ 0 → size.now.length ≤ longest_file }
     ensures { MatchOption result ((size.now.is_there ≢ 0) × HasNoRoom directory.now.entries.items done.now (entry_or_empty (entry_in directory.now.entries.items size.now.file)) (pages_of_length size.now.length) room)
         (IsProposed directory.now.entries.items room done.now size.now) }
 {
@@ -77,8 +78,7 @@ fn change_for(
         });
     }
     let entry = entry_or_empty(directory, size.file as usize);
-    let length = u64::from(size.length);
-    match resize(&directory.entries, done, &entry, length, room) {
+    match resize(&directory.entries, done, &entry, size.length, room) {
         Some(entry) => Some(Change {
             file: size.file,
             entry: Some(entry),
@@ -97,7 +97,7 @@ fn entry_or_empty(directory: &Directory, file: usize) -> Entry
     }
 }
 
-/// Whether a directory of so many entries takes sizes like these: their files rise, and each has its place in it and a number below 64.
+/// Whether a directory of so many entries takes sizes like these: their files rise, and each of them may be asked of it.
 fn are_sizes(entries: usize, sizes: &[FileSize]) -> bool
     ensures all { IsTrue result → AreSizes entries sizes.now }
     ensures one { IsFalse result → AreSizes entries sizes.now → ⊥ }
@@ -118,15 +118,23 @@ fn rise(sizes: &[FileSize]) -> bool
     true
 }
 
-/// Whether each file of these sizes has its place in a directory of so many entries, and a number below 64.
+/// Whether each of these sizes may be asked of a directory of so many entries.
 fn fit(entries: usize, sizes: &[FileSize]) -> bool
-    ensures all { IsTrue result → All (λ s. (s.file < entries) × (s.file < file_limit)) sizes.now }
+    ensures all { IsTrue result → All (IsSizeFor entries) sizes.now }
     ensures one { IsFalse result → AreSizes entries sizes.now → ⊥ }
 {
     for size in sizes {
-        if size.file as usize >= entries.min(FILES) {
+        if !is_size_for(entries, size) {
             return false;
         }
     }
     true
+}
+
+/// Whether a file has its place in a directory of so many entries, a number below 4,096, and 2^42 bytes at most, unless it goes.
+fn is_size_for(entries: usize, size: &FileSize) -> bool
+    ensures all { IsTrue result → IsSizeFor entries size.now }
+    ensures one { IsFalse result → IsSizeFor entries size.now → ⊥ }
+{
+    (size.file as usize) < entries.min(FILES) && (size.is_there == 0 || size.length <= LONGEST_FILE)
 }

@@ -8,6 +8,6 @@ pub struct FileSize {
     pub file: u32,
     /// 0 where it goes, and any other number where it is there.
     pub is_there: u32,
-    /// In bytes. Of a file that goes nothing is said by it.
-    pub length: u32,
+    /// In bytes, 2^42 at most. Of a file that goes nothing more is said by it.
+    pub length: u64,
 }

@@ -14,7 +14,7 @@ use disk_model::SectorDisk;
 use pool_store::{CommitRoom, Directory, Place, PoolStore};
 
 /// How many new pages go into slots at most. There they spare a sync, but are written a second time when they are brought home.
-const MOST_IN_SLOTS: usize = 64;
+const MOST_IN_SLOTS: usize = 128;
 
 /// How many new pages are put where they are to stand, and take no slots: none, where they are few and slots are free for all pages of the commit, and otherwise all.
 pub(crate) fn put_count<D: SectorDisk>(store: &PoolStore<D>, asked: FileChanges<'_>) -> usize

@@ -1,5 +1,5 @@
 -- What a map says stands doesn't depend on what is loose.
-use Rattle.std.proofs.Common.{◌≡◌, ◌⊎◌, ◌≤◌, ◌<◌, ◌+◌, ◌*◌, ◌-◌, ◌/◌, ◌%◌, ℕ, zero, suc, Bool, true, false, not, List, Option, Some, None, refl, sym, ap, subst, ◌∙◌, ⊎_elim, inl, inr, arith, ◌==◌, if◌then◌else◌}
+use Rattle.std.proofs.Common.{◌≡◌, ◌⊎◌, ◌≤◌, ◌<◌, ◌+◌, ◌*◌, ◌-◌, ◌/◌, ◌%◌, ℕ, zero, suc, Bool, true, false, not, List, Option, Some, None, IsSome, refl, sym, ap, subst, ◌∙◌, ⊎_elim, inl, inr, arith, ◌==◌, if◌then◌else◌}
 use Rattle.std.{proofs.lemmas.Bool.{cases_eq, cases_lt, eqb-false, eqb-true, Decides.{nat_tests}}, specs.Prelude.{nat_lt, min}}
 use Rattle.byteorder.specs.Endian.{little_number}
 use Rattle.disk_model.{proofs.Pieces.{joined-same}, specs.{Stop.{Image}, declared.sector_disk.SectorDisk.{Ghosts}}}
@@ -66,6 +66,22 @@ slot_gives m entries h = from (first_among (entries false) (suc h) (504 * m)) (f
     from (Some r) p found other = found
     from None (Some r) found other = other
     from None None found other = neither found other
+
+-- a home whose number no slot has is given none
+pub none_at : (m : ℕ) (entries : Bool → ℕ → ℕ) (h : ℕ) → ((body : Bool) (r : ℕ) → r < 504 * m → entries body r ≡ suc h → ⊥) → slot_by m entries h ≡ None
+none_at m entries h none = here (slot_by m entries h) (slot_gives m entries h)
+  where
+    here : (o : Option (Bool × ℕ)) → Gives m entries h o → o ≡ None
+    here None gives = refl
+    here (Some slot) gives = absurd (none slot.0 slot.1 gives.0 gives.1)
+
+-- and one whose number a slot has is given one
+pub some_at : (m : ℕ) (entries : Bool → ℕ → ℕ) (h : ℕ) (body : Bool) (r : ℕ) → r < 504 * m → entries body r ≡ suc h → IsSome (slot_by m entries h)
+some_at m entries h body r below number = here (slot_by m entries h) (slot_gives m entries h)
+  where
+    here : (o : Option (Bool × ℕ)) → Gives m entries h o → IsSome o
+    here None gives = absurd (gives body r below number)
+    here (Some slot) gives = refl
 
 -- maps whose slots pass the same test give a home the same slot
 pub slot_alike : (m : ℕ) (names others : Bool → ℕ → ℕ) (h : ℕ) → ((body : Bool) (r : ℕ) → r < 504 * m → (names body r == suc h) ≡ (others body r == suc h))

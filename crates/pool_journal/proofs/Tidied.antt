@@ -1,10 +1,10 @@
 -- All pages are brought home: the homes and an empty map, and then the gate.
-use Rattle.std.proofs.Common.{◌≡◌, ◌⊎◌, ◌≤◌, ◌<◌, ◌-◌, ◌+◌, ◌*◌, ◌∙◌, ℕ, Bool, true, false, not, Result, Ok, Err, refl, sym, ap, subst, ⊎_elim, inl, inr, arith}
+use Rattle.std.proofs.Common.{◌≡◌, ◌⊎◌, ◌≤◌, ◌<◌, ◌+◌, ◌*◌, ◌∙◌, ℕ, Bool, true, false, not, Result, Ok, Err, refl, sym, ap, subst, ⊎_elim, inl, inr, arith}
 use Rattle.std.{proofs.lemmas.Result.{on_ok_weaker}, specs.Prelude.{IsErr}}
 use Rattle.disk_model.{proofs.{Moments.{stays, asks_none, asks_once, asks_then, asks_wider}, Naming.{once_apart, once_none, once_wider}}, specs.{Moments.{AsksOnly}, Stop.{NamesOnce}, declared.sector_disk.{DiskFault.{DiskFault}, SectorDisk.{Ghosts}}}}
 use Rattle.pool_journal.proofs.{AllFree.{all_counted}, Anew.{anew_moments, anew_settled, naming_blocks, KeepsPages}, Asking.{moved_gate, moved_map}, Committed.{Begins}, Loose.{map_high, map_low}, Phases.{while_writing, still_settled, loose_blocks}, Room.{copied_moved}, Thinned.{brought}}
-use Rattle.pool_journal.specs.{Blocks.{IsNotedMap}, Commit.{IsMoved, IsWritten, NamesMap}, Committing.{PoolCommitsInBlocks}, Copying.{CopiesHome, IsCopiedHome, HoldsHomes}, Gates.{IsPoolGate}, Journal.{IsPoolJournal, TurnsMap, free_count}, Maps.{entries_of, IsEmptyMap}}
-use Rattle.pool_journal.specs.{Pools.{pool, pool_home, pool_start, pool_standing, pool_entry, pool_named, IsLoose, IsLooseHome, IsPoolMap, IsPoolUsed, IsSingle}, Recovering.{layout_in, state_of, GivesNone}, Room.{ChangesNext}, Tidying.{IsFirstBlock, IsBrought, IsTidied, BringsHome, TidiesPool}}
+use Rattle.pool_journal.specs.{Blocks.{IsNotedMap}, Commit.{IsMoved, IsWritten, NamesMap}, Committing.{PoolCommitsInBlocks}, Copying.{CopiesHome, IsCopiedHome, HoldsHomes}, Gates.{IsPoolGate}, Journal.{IsPoolJournal, TurnsMap}, Maps.{entries_of, IsEmptyMap}}
+use Rattle.pool_journal.specs.{Pools.{pool, pool_home, pool_standing, pool_entry, pool_named, IsLoose, IsLooseHome, IsPoolMap, IsPoolUsed, IsSingle}, Recovering.{GivesNone}, Room.{ChangesNext}, Tidying.{IsFirstBlock, IsBrought, IsTidied, BringsHome, TidiesPool}}
 use Rattle.pool_journal.specs.declared.{map.SlotMap.{SlotMap}, pool.PoolJournal.{PoolJournal}}
 use Rattle.sync_journal.{proofs.Runs.{of_more, one_more}, specs.{Layouts.{HomesStandAs, IsSettled, KeepsHomes}, Runs.{RunsOnDevice}, Steps.{SyncsInto}}}
 

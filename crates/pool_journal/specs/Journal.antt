@@ -3,7 +3,6 @@ use Rattle.std.specs.Prelude.{ℕ, ◌+◌, ◌*◌, ◌≤◌, ◌≡◌, Bool,
 use Rattle.pool_journal.specs.Giving.{number_but, live_among}
 use Rattle.pool_journal.specs.Maps.{entries_of, IsMapOf, IsEmptyMap, free_slots}
 use Rattle.pool_journal.specs.Sizes.{IsSized}
-use Rattle.pool_journal.specs.declared.map.SlotMap.{SlotMap}
 use Rattle.pool_journal.specs.declared.pool.PoolJournal.{PoolJournal}
 use Rattle.pool_journal.specs.declared.taking.TakenSlots.{TakenSlots}
 use Rattle.pool_journal.specs.declared.sizes.PoolSizes.{PoolSizes}

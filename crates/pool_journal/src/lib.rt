@@ -43,4 +43,5 @@ mod taking;
 mod tidying;
 
 pub use pool::PoolJournal;
+pub use searches::FIRST_HOMES;
 pub use sizes::{BLOCK_SLOTS, MAX_BLOCKS, POOL_GATE, PoolSizes};

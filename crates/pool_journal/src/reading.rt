@@ -1,5 +1,5 @@
 //! The page that stands for a home.
-ghost use Rattle.std.specs.Prelude.{◌≡◌, ◌≤◌, ◌<◌, ◌^◌};
+ghost use Rattle.std.specs.Prelude.{◌≡◌, ◌≤◌, ◌<◌, ◌-◌, ◌^◌, ℕ, true, false, get_or, IsSome, None};
 ghost use Rattle.pool_journal.specs.Journal.{IsPoolJournal};
 ghost use Rattle.pool_journal.specs.Maps.{entries_of, IsMapOf};
 ghost use Rattle.pool_journal.specs.Pools.{pool_home, slot_by, pool_stands};
@@ -8,6 +8,7 @@ ghost use Rattle.pool_journal.specs.Sizes.{HasPool, IsSized};
 
 use crate::map::SlotMap;
 use crate::pool::PoolJournal;
+use crate::searches::{FIRST_HOMES, greatest, mark_homes};
 use crate::sizes::PoolSizes;
 use disk_model::{DiskFault, SectorDisk};
 use sync_journal::read_page;
@@ -41,6 +42,28 @@ impl PoolJournal {
         ensures inside { result ≤ pool_home self.now.sizes.blocks home }
     {
         stands_at(self.sizes, &self.map, home)
+    }
+
+    /// From which home on the map gives no slot: each home from there on stands where it is. Where that is not 0, the home before it has a slot.
+    pub fn homes_given(&self) -> u32
+        requires is { IsPoolJournal self.now }
+        ensures none { (home : ℕ) → result ≤ home → slot_by self.now.sizes.blocks (entries_of self.now.map) home ≡ None }
+        ensures last { 0 < result → IsSome (slot_by self.now.sizes.blocks (entries_of self.now.map) (result - 1)) }
+    {
+        greatest(&self.map.first).max(greatest(&self.map.second))
+    }
+
+    /// Which of the first homes, so many and 256 at most, the map gives a slot to. Each of the others among them stands where it is.
+    pub fn first_given(&self, homes: u32) -> [bool; FIRST_HOMES]
+        requires is { IsPoolJournal self.now }
+        requires few { homes ≤ 256 }
+        ensures given { (home : ℕ) → home < homes → get_or result home false ≡ true → IsSome (slot_by self.now.sizes.blocks (entries_of self.now.map) home) }
+        ensures none { (home : ℕ) → home < homes → get_or result home false ≡ false → slot_by self.now.sizes.blocks (entries_of self.now.map) home ≡ None }
+    {
+        let mut given = [false; FIRST_HOMES];
+        mark_homes(&mut given, &self.map.first, homes);
+        mark_homes(&mut given, &self.map.second, homes);
+        given
     }
 }
 

@@ -3,6 +3,7 @@ ghost use Rattle.std.specs.Prelude.{◌≡◌, ◌≤◌, ◌<◌, ◌+◌, ◌*
 ghost use Rattle.pool_journal.specs.Journal.{free_count};
 ghost use Rattle.pool_journal.specs.Maps.{entries_of, IsMapOf, free_among};
 ghost use Rattle.pool_journal.specs.Pools.{first_among, slot_by};
+ghost use Rattle.pool_journal.specs.Reading.{MarksHomes};
 
 use crate::map::SlotMap;
 use crate::slot::Slot;
@@ -93,4 +94,58 @@ fn free_in(numbers: &[u32]) -> u32
         count += u32::from(numbers[place] == 0);
     }
     count
+}
+
+/// The greatest of these numbers, or 0 where there is none.
+pub(crate) fn greatest(numbers: &[u32]) -> u32
+    ensures most { (i : ℕ) → i < length numbers.now → get_or numbers.now i 0 ≤ result }
+    ensures met { 0 < result → (i : ℕ) × (i < length numbers.now) × (get_or numbers.now i 0 ≡ result) }
+{
+    let mut most = 0;
+    for place in 0..numbers.len() {
+        most = most.max(numbers[place]);
+    }
+    most
+}
+
+/// Of how many homes it is told at once whether they have slots.
+pub const FIRST_HOMES: usize = 256;
+
+/// Marks those of the first `homes` homes whose numbers stand among others.
+pub(crate) fn mark_homes(given: &mut [bool; FIRST_HOMES], numbers: &[u32], homes: u32)
+    requires { homes ≤ 256 }
+    ensures { MarksHomes homes numbers.now (length numbers.now) given.old given.new }
+{
+    let runs = numbers.len() / RUN;
+    for run in 0..runs {
+        mark_run(given, &numbers[RUN * run..RUN * run + RUN], homes);
+    }
+    mark_run(given, &numbers[RUN * runs..], homes);
+}
+
+// Marks those of the first homes whose numbers stand in a run: few runs have any.
+fn mark_run(given: &mut [bool; FIRST_HOMES], numbers: &[u32], homes: u32)
+    requires { homes ≤ 256 }
+    ensures { MarksHomes homes numbers.now (length numbers.now) given.old given.new }
+{
+    if !has_first(numbers, homes) {
+        return;
+    }
+    for place in 0..numbers.len() {
+        let number = numbers[place];
+        if number != 0 && number <= homes {
+            given[number as usize - 1] = true;
+        }
+    }
+}
+
+// Whether a number of the first homes stands among others: all of them are looked at, which takes less time than to stop.
+fn has_first(numbers: &[u32], homes: u32) -> bool
+    ensures { result ≡ false → (i : ℕ) → i < length numbers.now → 0 < get_or numbers.now i 0 → get_or numbers.now i 0 ≤ homes → ⊥ }
+{
+    let mut found = false;
+    for place in 0..numbers.len() {
+        found |= (numbers[place] != 0) & (numbers[place] <= homes);
+    }
+    found
 }

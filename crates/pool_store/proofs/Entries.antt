@@ -1,10 +1,10 @@
 -- What stands for the homes of a directory, read entry by entry.
-use Rattle.std.proofs.Common.{ℕ, ◌≡◌, ◌<◌, ◌≤◌, ◌+◌, ◌-◌, ◌*◌, ◌/◌, ◌%◌, ⊎_elim, List, [], ◌∷◌, ◌++◌, length, true, false, refl, sym, ap, subst, ◌∙◌, arith, Option, None}
+use Rattle.std.proofs.Common.{ℕ, ◌≡◌, ◌<◌, ◌≤◌, ◌+◌, ◌-◌, ◌*◌, ◌/◌, ◌%◌, ⊎_elim, List, set, take, replicate, [], ◌∷◌, ◌++◌, length, true, false, refl, sym, ap, subst, ◌∙◌, arith, Option, None, Result, Ok, Err, OnErr}
 use Rattle.std.specs.Prelude.{nat_lt}
-use Rattle.std.proofs.lemmas.{Bool.{cases_lt, cases_eq, cond-true, cond-false, Decides.{nat_tests}}, List.{ext_get_or, get_or_past, get_or_push, get_or_append_left, length_push}}
+use Rattle.std.proofs.lemmas.{Bool.{cases_lt, cases_eq, cond-true, cond-false, Decides.{nat_tests}}, List.{drop-replicate, take-replicate, get_or-set_same, get_or-set_other, length-set, ext_get_or, get_or_past, get_or_push, get_or_append_left, length_push}}
 use Rattle.disk_model.specs.Sectors.{joined}
 use Rattle.directories.specs.{Entries.{SaysEntry, entry_bytes, entry_said}, Layouts.{entry_in, IsGoodLayout}}
-use Rattle.directories.specs.declared.entry.Entry.{Entry}
+use Rattle.directories.specs.declared.entry.{Entry.{Entry}, EntryFault.{EntryFault}}
 use Rattle.directories.proofs.Said.{said}
 use Rattle.pool_store.specs.{Pools.{entry_standing, entry_by, AreSaid, HaveBounds, IsDirectory}, Reading.{AppendsPage, HasNoEntry}}
 
@@ -60,6 +60,43 @@ entry_stood d stands entries size all f = ⊎_elim
     (λ (past : 16 * d ≤ f). (let none : nat_lt f (16 * d) ≡ false = grind (arith, nat_tests) in
     cond-false (nat_lt f (16 * d)) (entry_said (entry_standing stands f)) None none ∙ sym (get_or_past entries f None (omega (arith, past, size)))))
     (cases_lt f (16 * d))
+
+-- an entry of a page of zeros is of no file
+pub blank_entry : (i : ℕ) → i < 16 → entry_bytes (replicate 4096 0) i ≡ replicate 256 0
+blank_entry i below = ap (take 256) (drop-replicate (256 * i) 4096 0) ∙ take-replicate 256 (4096 - 256 * i) 0 (omega (arith, below))
+
+-- Behind others there is room for the entries of a page, and the first n of them are read:
+pub record FillsPage (page : List ℕ) (n : ℕ) (old new : List (Option Entry)) : Type 0 where
+  pub size : length new ≡ length old + 16
+  pub before : (f : ℕ) → f < length old → entry_in new f ≡ entry_in old f
+  pub said : (i : ℕ) → i < n → SaysEntry (entry_bytes page i) (entry_in new (length old + i))
+
+pub fills_none : (page blank : List ℕ) (old new : List (Option Entry)) → AppendsPage blank 16 old new → FillsPage page 0 old new
+fills_none page blank old new room = record { size = room.size; before = room.before; said = λ i less. absurd (omega (arith, less)) }
+
+-- one entry more is read to its place
+pub fills_one : (page : List ℕ) (n : ℕ) (old mid new : List (Option Entry)) (entry : Option Entry) → n < 16 → FillsPage page n old mid → SaysEntry (entry_bytes page n) entry
+    → new ≡ set mid (length old + n) entry → FillsPage page (n + 1) old new
+fills_one page n old mid new entry small so_far says is = record {
+  size = ap length is ∙ length-set mid (length old + n) entry ∙ so_far.size;
+  before = λ f less. beside f (λ same. omega (arith, less, same)) ∙ so_far.before f less;
+  said = λ i less. ⊎_elim
+      (λ same. subst (λ j. SaysEntry (entry_bytes page j) (entry_in new (length old + j))) (sym same) (subst (SaysEntry (entry_bytes page n)) (sym here) says))
+      (λ other. subst (SaysEntry (entry_bytes page i)) (sym (beside (length old + i) (λ same. other (omega (arith, same))))) (so_far.said i (omega (arith, less, other))))
+      (cases_eq i n);
+}
+  where
+    here : entry_in new (length old + n) ≡ entry
+    here = ap (λ (xs : List (Option Entry)). entry_in xs (length old + n)) is
+        ∙ get_or-set_same mid (length old + n) entry None (let size = so_far.size in omega (arith, small, size))
+
+    beside : (f : ℕ) → (f ≡ length old + n → ⊥) → entry_in new f ≡ entry_in mid f
+    beside f other = ap (λ (xs : List (Option Entry)). entry_in xs f) is ∙ get_or-set_other mid (length old + n) f entry None other
+
+-- what holds is told of a fault
+pub on_fault : (result : Result (Unit {0}) EntryFault) (P : Type 0) → P → OnErr result P
+on_fault (Ok _) P holds = tt
+on_fault (Err _) P holds = holds
 
 -- one entry more is appended
 pub appends_none : (page : List ℕ) (old : List (Option Entry)) → AppendsPage page 0 old old

@@ -165,7 +165,9 @@ module _ {R : Type 0} where
   pub may_be : (n : ℕ) (sources : List (FileSource R)) → length sources ≤ 64 → new_pages + total_pages sources ≤ n → AreShort sources 64 → AreEntries new_pages n (entries_given sources)
   may_be n sources few fit short = record {
     size = long sources;
-    bounded = λ f e is. ⊎_elim (λ below. (below, short f e below (sym (listed sources few f) ∙ is), few_extents sources f e (sym (listed sources few f) ∙ is)))
-        (λ past. absurd (none-some e (sym (given_past sources f (omega (arith, few, past))) ∙ sym (listed sources few f) ∙ is))) (cases_lt f 64);
+    bounded = λ f e is.
+        let given = sym (listed sources few f) ∙ is in
+        ⊎_elim (λ below. let length = short f e below given in (omega (arith, below), omega (arith, length), few_extents sources f e given))
+        (λ past. absurd (none-some e (sym (given_past sources f (omega (arith, few, past))) ∙ given))) (cases_lt f 64);
     good = good_entries n sources few fit;
   }

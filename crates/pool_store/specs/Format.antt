@@ -1,7 +1,6 @@
 -- What a new store of layout 4 is made of.
 use Rattle.std.specs.Prelude.{ℕ, zero, suc, ◌+◌, ◌*◌, ◌-◌, ◌^◌, ◌<◌, ◌≤◌, ◌≡◌, ◌⊎◌, List, [], ◌∷◌, ◌++◌, length, map, replicate, slice_get, Option, Some}
 use Rattle.std.specs.{List.{range_with_len}, Option.{option_map}}
-use Rattle.vm_types.specs.Limits.{file_limit}
 use Rattle.disk_model.specs.{Sectors.{part_of}, Stop.{Image}}
 use Rattle.pool_journal.specs.{Clearing.{IsEmptyPool, IsHeadOfPool}, Pools.{pool_home, pool_home_count}}
 use Rattle.directories.specs.{Entries.{SaysEntry, entry_bytes}, Kinds.{IsKind}}
@@ -14,6 +13,10 @@ use Rattle.pool_store.specs.Pools.{IsBadPool, entry_standing, files_in_pool, poo
 -- the pages of a new store's directory, in the first homes
 abbrev pub new_pages : ℕ
 new_pages = 4
+
+-- the files that they have room for
+abbrev pub new_files : ℕ
+new_files = 64
 
 -- a sector of the homes from first on, and before end
 abbrev pub IsHomeSector : ℕ → ℕ → ℕ → ℕ → Type 0
@@ -71,7 +74,7 @@ module _ {R : Type 0} where
 
   -- and those of all files that the directory has room for
   abbrev pub entries_given : List (FileSource R) → List (Option Entry)
-  entries_given sources = map (entry_given sources) (range_with_len 0 64)
+  entries_given sources = map (entry_given sources) (range_with_len 0 new_files)
 
   -- the lengths of the first n files are of four bytes
   abbrev pub AreShort : List (FileSource R) → ℕ → Type 0
@@ -102,7 +105,7 @@ module _ {R : Type 0} where
 
   -- No store with maps of m blocks on so many sectors holds these files.
   pub data IsTooLargeFor (m sectors : ℕ) (sources : List (FileSource R)) : Type 0 where
-    TooManyFiles : file_limit < length sources → IsTooLargeFor m sectors sources
+    TooManyFiles : new_files < length sources → IsTooLargeFor m sectors sources
     TooFewSectors : sectors < pool_home m new_pages → IsTooLargeFor m sectors sources
     TooManyPages : pool_home_count m sectors < new_pages + total_pages sources → IsTooLargeFor m sectors sources
 

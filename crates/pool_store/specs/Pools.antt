@@ -1,7 +1,7 @@
 -- Stores whose pages stay in a pool: layout 4. The format is our own. Sector 0 is the mark and sector 1 the kind, which says how large maps and directory
 -- are; the first homes are the directory, whose pages are committed as all others are.
-use Rattle.std.specs.Prelude.{ℕ, ◌*◌, ◌/◌, ◌%◌, ◌^◌, ◌<◌, ◌≤◌, ◌≡◌, ◌≢◌, Bool, List, length, Option, Some, None, nat_lt, if◌then◌else◌}
-use Rattle.vm_types.specs.Limits.{file_limit}
+use Rattle.std.specs.Prelude.{ℕ, ◌*◌, ◌/◌, ◌%◌, ◌<◌, ◌≤◌, ◌≡◌, ◌≢◌, Bool, List, length, Option, Some, None, nat_lt, if◌then◌else◌}
+use Rattle.vm_types.specs.Limits.{file_limit, longest_file}
 use Rattle.disk_model.specs.{Sectors.{joined}, Stop.{Image}}
 use Rattle.pool_journal.specs.Pools.{pool, pool_home, pool_standing}
 use Rattle.directories.specs.Entries.{SaysEntry, entry_bytes, entry_said}
@@ -19,15 +19,15 @@ entry_standing stands f = entry_bytes (joined (stands (f / 16)) 8) (f % 16)
 abbrev pub entry_by : ℕ → (ℕ → ℕ → List ℕ) → ℕ → Option Entry
 entry_by d stands f = if nat_lt f (16 * d) then entry_said (entry_standing stands f) else None
 
--- the files' numbers are below 64, their lengths of four bytes, and their extents 30 at most
+-- the files' numbers are below 4,096, their lengths 2 ^ 42 at most, and their extents 30
 abbrev pub HaveBounds : List (Option Entry) → Type 0
-HaveBounds entries = (f : ℕ) (e : Entry) → entry_in entries f ≡ Some e → (f < file_limit) × (e.length < 2 ^ 32) × (e.extent_count ≤ 30)
+HaveBounds entries = (f : ℕ) (e : Entry) → entry_in entries f ≡ Some e → (f < file_limit) × (e.length ≤ longest_file) × (e.extent_count ≤ 30)
 
 -- Entries that a store with a directory of d pages may have on a device of n homes:
 pub record AreEntries (d n : ℕ) (entries : List (Option Entry)) : Type 0 where
   -- there are 16 for each page,
   pub size : length entries ≡ 16 * d
-  -- the files' numbers are below 64, their lengths of four bytes, and their extents 30 at most,
+  -- the files' numbers are below 4,096, their lengths 2 ^ 42 at most, and their extents 30,
   pub bounded : HaveBounds entries
   -- and the extents lie on the device behind the directory, no two with a home in common, and are enough.
   pub good : IsGoodLayout d n entries

@@ -13,9 +13,9 @@ pub struct Directory {
     pub pages: u32,
     /// One for each file that these have room for.
     pub entries: Vec<Option<Entry>>,
-    /// No file has a number past the last one, or more bytes than four bytes can say.
-    pub ghost numbers: { (f : ℕ) (e : Entry) → get_or entries.items f None ≡ Some e → f < 64 },
-    pub ghost lengths: { (f : ℕ) (e : Entry) → get_or entries.items f None ≡ Some e → e.length < 2 ^ 32 },
+    /// No file has a number past the last one, or more bytes than a file may have.
+    pub ghost numbers: { (f : ℕ) (e : Entry) → get_or entries.items f None ≡ Some e → f < 4096 },
+    pub ghost lengths: { (f : ℕ) (e : Entry) → get_or entries.items f None ≡ Some e → e.length ≤ 2 ^ 42 },
 }
 
 impl Directory {
@@ -37,7 +37,7 @@ impl Directory {
     {
         let entry = self.entry(n)?;
         Some(FileInfo {
-            length: entry.length as u32,
+            length: entry.length,
             read_only: entry.read_only,
         })
     }

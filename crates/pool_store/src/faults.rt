@@ -15,7 +15,7 @@ pub enum OpenFault {
     #[error("{}", RecoverFault::Device)]
     Device = 1,
     /// Sector 0 is not the mark, sector 1 no kind, the device has too few sectors for what that says, or the directory is bad: an entry is
-    /// none, a file's number is over 63 or its length no number of four bytes, or its extents lie outside of the store, are too few or share
+    /// none, a file's length is over 2^42, or its extents lie outside of the store, are too few or share
     /// a home. Nothing was written.
     #[error("BADLAYOUT")]
     BadLayout = 2,

@@ -1,6 +1,5 @@
 //! New stores.
 ghost use Rattle.std.specs.Prelude.{◌≡◌, ◌+◌, ◌<◌, ◌≤◌, ◌⊎◌, length, OnOk, OnErr, IsErrOf};
-ghost use Rattle.vm_types.specs.Limits.{file_limit};
 ghost use Rattle.disk_model.specs.{Moments.{Nothing}, Stop.{NamesOnce}};
 ghost use Rattle.directories.specs.Kinds.{IsKind, IsMapSize};
 ghost use Rattle.file_store.specs.Format.{AreWhole, HasReader, IsKindSector, IsMarkSector, total_pages};
@@ -8,7 +7,7 @@ ghost use Rattle.file_store.specs.Layout.{IsMark, pool_mark};
 ghost use Rattle.file_store.specs.Making.{FillsHomes, HasFormatCauses};
 ghost use Rattle.pool_journal.specs.{Pools.{pool_home, pool_home_count}, Sizes.{HasPool}};
 ghost use Rattle.sync_journal.specs.{Runs.{RunsOnDevice}, Steps.{SyncsInto}};
-ghost use Rattle.pool_store.specs.Format.{IsInnerPoolOf, IsInnerSector, IsUnmarkedPoolSector, new_pages};
+ghost use Rattle.pool_store.specs.Format.{IsInnerPoolOf, IsInnerSector, IsUnmarkedPoolSector, new_pages, new_files};
 ghost use Rattle.pool_store.specs.Formatted.{FormatsPool, WritesKindLast};
 
 use crate::new_directory::write_directory;
@@ -73,7 +72,7 @@ fn write_unmarked<D: SectorDisk, R: Read>(
     sources: &mut [FileSource<R>],
 ) -> Result<(), FormatFault>
     requires maps { IsMapSize blocks }
-    requires files { length sources.old ≤ file_limit }
+    requires files { length sources.old ≤ new_files }
     requires room { pool_home blocks new_pages ≤ D.sector_count disk.old }
     requires homes { new_pages + total_pages sources.old ≤ pool_home_count blocks (D.sector_count disk.old) }
     ensures fills { FillsHomes D.SectorDisk (IsUnmarkedPoolSector blocks (total_pages sources.old)) (HasReader sources.old) (AreWhole R.remaining sources.old (length sources.old)) disk.old disk.new result }
@@ -90,7 +89,7 @@ fn write_kind_last<D: SectorDisk, R: Read>(
     sources: &mut [FileSource<R>],
 ) -> Result<(), FormatFault>
     requires pool { HasPool D.SectorDisk sizes disk.old }
-    requires files { length sources.old ≤ file_limit }
+    requires files { length sources.old ≤ new_files }
     requires homes { new_pages + total_pages sources.old ≤ sizes.homes }
     ensures fills { FillsHomes D.SectorDisk (IsUnmarkedPoolSector sizes.blocks (total_pages sources.old)) (HasReader sources.old) (AreWhole R.remaining sources.old (length sources.old)) disk.old disk.new result }
     ensures last { D.keeps_model disk.new → WritesKindLast D.SectorDisk sizes.blocks (IsInnerPoolOf sizes.blocks R.remaining sources.old) disk.old disk.new result }
@@ -108,7 +107,7 @@ fn write_inner<D: SectorDisk, R: Read>(
     sources: &mut [FileSource<R>],
 ) -> Result<(), FormatFault>
     requires pool { HasPool D.SectorDisk sizes disk.old }
-    requires files { length sources.old ≤ file_limit }
+    requires files { length sources.old ≤ new_files }
     requires homes { new_pages + total_pages sources.old ≤ sizes.homes }
     ensures fills { FillsHomes D.SectorDisk (IsInnerSector sizes.blocks (total_pages sources.old)) (HasReader sources.old) (AreWhole R.remaining sources.old (length sources.old)) disk.old disk.new result }
     ensures inner { D.keeps_model disk.new → OnOk result (IsInnerPoolOf sizes.blocks R.remaining sources.old (D.content disk.new)) }

@@ -1,4 +1,4 @@
-//! A store of up to 64 files of fixed lengths on a row of sectors whose pages stay in a pool of slots, and change all at once or not at
+//! A store of up to 4,096 files of fixed lengths on a row of sectors whose pages stay in a pool of slots, and change all at once or not at
 //! all, whatever moment the device stops at: layout 4.
 //!
 //! The format is our own; sectors are of 512 bytes, pages of 4,096. With maps of `M` blocks, 1 to 2,048, and a directory of `D` pages, 1
@@ -39,5 +39,5 @@ pub use formatting::{format, write_kind, write_mark};
 pub use new_directory::extents_of;
 pub use opening::stops_in_a_row;
 pub use room::{CommitRoom, Place};
-pub use sizes::{DIRECTORY_PAGES, image_bytes};
+pub use sizes::{DIRECTORY_PAGES, NEW_FILES, image_bytes};
 pub use store::PoolStore;

@@ -1,10 +1,9 @@
 //! The directory of a new store.
 ghost use Rattle.std.specs.Prelude.{◌≡◌, ◌+◌, ◌<◌, ◌≤◌, ◌^◌, length, IfSome};
-ghost use Rattle.vm_types.specs.Limits.{file_limit};
 ghost use Rattle.file_store.specs.Format.{first_home, total_pages};
 ghost use Rattle.pool_journal.specs.Sizes.{HasPool};
 ghost use Rattle.sync_journal.specs.Steps.{WritesInto};
-ghost use Rattle.pool_store.specs.Format.{IsHomeSector, IsDirectoryPage, HomesHoldDirectory, entry_given, entry_made, extents_room, new_pages};
+ghost use Rattle.pool_store.specs.Format.{IsHomeSector, IsDirectoryPage, HomesHoldDirectory, entry_given, entry_made, extents_room, new_pages, new_files};
 
 use crate::sizes::DIRECTORY_PAGES;
 use directories::{EXTENTS, Entry, Extent, PAGE_ENTRIES, write_entry};
@@ -20,7 +19,7 @@ pub(crate) fn write_directory<D: SectorDisk, R>(
     sources: &[FileSource<R>],
 ) -> Result<(), DiskFault>
     requires pool { HasPool D.SectorDisk sizes disk.old }
-    requires files { length sources.now ≤ file_limit }
+    requires files { length sources.now ≤ new_files }
     requires homes { new_pages + total_pages sources.now ≤ sizes.homes }
     ensures { WritesInto D.SectorDisk (IsHomeSector sizes.blocks 0 new_pages) (IsHomeSector sizes.blocks 0 new_pages) (HomesHoldDirectory sizes.blocks sources.now new_pages (D.content disk.new)) disk.old disk.new result }
 {

@@ -9,10 +9,13 @@ ghost use Rattle.pool_store.specs.Format.{IsTooLargeFor, new_pages};
 use disk_model::SECTOR_BYTES;
 use file_store::{FileSource, pages_of};
 use pool_journal::PoolSizes;
-use vm_types::{FILES, PAGE_BYTES};
+use vm_types::PAGE_BYTES;
 
-/// The pages of a new store's directory: 64 files.
+/// The pages of a new store's directory.
 pub const DIRECTORY_PAGES: u32 = 4;
+
+/// The files that they have room for.
+pub const NEW_FILES: usize = 64;
 
 /// Whether these files are too many or too large for a store with maps of so many blocks on so many sectors.
 pub(crate) fn is_too_large<R>(blocks: u32, sources: &[FileSource<R>], sectors: u64) -> bool
@@ -23,7 +26,7 @@ pub(crate) fn is_too_large<R>(blocks: u32, sources: &[FileSource<R>], sectors: u
     let front = sizes.home(DIRECTORY_PAGES);
     let homes = u64::from(sizes.homes).saturating_sub(u64::from(DIRECTORY_PAGES));
     let pages = pages_of(sources);
-    sources.len() > FILES || sectors < front || pages > homes
+    sources.len() > NEW_FILES || sectors < front || pages > homes
 }
 
 /// How many bytes an image of these files has, whose homes end where it ends: `512 * (16 + 8080 M + 8 (4 + H))` with maps of

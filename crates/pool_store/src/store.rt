@@ -11,7 +11,7 @@ use file_store::trim;
 use pool_journal::PoolJournal;
 use vm_types::{FileInfo, FilePage};
 
-/// Up to 64 files of fixed lengths in a pool on a device.
+/// Up to 4,096 files of fixed lengths in a pool on a device.
 #[derive(Drop)]
 pub struct PoolStore<D> {
     pub disk: D,
@@ -22,7 +22,7 @@ pub struct PoolStore<D> {
 
 impl<D: SectorDisk> PoolStore<D> {
     /// The facts of file `n`, or none where the store has no such file.
-    pub fn file(&self, n: u8) -> Option<FileInfo>
+    pub fn file(&self, n: u16) -> Option<FileInfo>
         ensures { result ≡ files_of self.now n }
     {
         self.directory.info(usize::from(n))

@@ -7,7 +7,7 @@ ghost use Rattle.pool_journal.specs.Sizes.{HasPool};
 
 use crate::run_disk::RunDisk;
 use disk_model::{DiskFault, SectorDisk, SimDisk};
-use pool_journal::{PoolJournal, PoolSizes};
+use pool_journal::{FIRST_HOMES, PoolJournal, PoolSizes};
 use std::alloc::Global;
 use std::fmt::Debug;
 use std::process::Abort;
@@ -168,6 +168,18 @@ impl Pool {
     /// How many pages the next commit may take.
     pub(crate) fn free_pages(&self) -> usize {
         self.journal.free_pages()
+    }
+
+    /// From which home on none has a slot.
+    pub(crate) fn homes_given(&self) -> u32 {
+        self.journal.homes_given()
+    }
+
+    /// Which of the first homes, so many, have a slot.
+    pub(crate) fn first_given(&self, homes: u32) -> [bool; FIRST_HOMES]
+        requires { homes ≤ 256 }
+    {
+        self.journal.first_given(homes)
     }
 
     /// The byte that fills a page, and 255 where it can't be read or is not of one byte.

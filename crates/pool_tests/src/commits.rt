@@ -18,6 +18,14 @@ fn a_commit_takes_three_runs_of_writes_and_two_syncs_and_no_home(
         expect(disk.last < FRONT, "a home was written")?;
         equal(&rt, pool.bytes([4, 5, 300, 599]), [0, byte, byte, byte]);
     }
+    equal(&rt, pool.homes_given(), 600);
+    let given = pool.first_given(21);
+    equal(
+        &rt,
+        (given[4], given[5], given[9], given[10]),
+        (false, true, true, false),
+    );
+    equal(&rt, (given[0], given[19], given[20]), (false, false, true));
     // Each page took eight writes, and so did a map.
     equal(&rt, pool.disk.disk.writes(), 3 * (8 * 8 + 8 + 1));
     // The third is in body 1 again, which lies behind map 1.
@@ -33,12 +41,12 @@ fn a_commit_takes_as_many_pages_as_are_free(rt: HostRuntime) -> Result<(), Fail>
     }
     let mut source = Filled::with(7);
     expect(pool.commit(&homes, &mut source)?.is_ok(), "all slots")?;
-    equal(&rt, pool.free_pages(), 0);
+    equal(&rt, (pool.free_pages(), pool.homes_given()), (0, 1009));
     expect(pool.disk.last < FRONT, "a home was written")?;
     equal(&rt, pool.bytes([0, 1, 1008, 1009]), [0, 7, 7, 0]);
     // A commit of no page copies them home, and all slots are free then.
     expect(pool.commit(&[], &mut source)?.is_ok(), "no page")?;
-    equal(&rt, pool.free_pages(), 1008);
+    equal(&rt, (pool.free_pages(), pool.homes_given()), (1008, 0));
     equal(&rt, pool.disk.last, FRONT + 8 * 1009 - 1);
     equal(&rt, pool.bytes([0, 1, 1008, 1009]), [0, 7, 7, 0]);
     Ok(())

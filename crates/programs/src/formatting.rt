@@ -12,10 +12,10 @@ use command_words::{FormatWords, NewWords, format_words};
 use disk_model::{FileContents, FileDisk, SectorDisk, Unknown};
 use file_store::{FileSource, FormatFault};
 use host_files::{Opening, lengthen, open_alone, open_regular};
+use pool_store::NEW_FILES;
 use std::fs::{self, File, Files, TryLockError};
 use std::io::{self, ErrorKind, Read, Write};
 use stores::{NewStore, format, image_bytes};
-use vm_types::FILES;
 
 /// `pagefmt new IMAGE SPEC...`: makes IMAGE where it is missing, lengthens it to `512 * (8195 + 8 H)` bytes for the `H`
 /// home pages of the specs, and formats it. The files get numbers and homes in the order of the specs. SPEC is `zero:LEN`,
@@ -174,7 +174,7 @@ fn unmarked_disk<'a, C: FileContents>(
     requires { IsSizedNew store }
     ensures { IfOk result (IsJustOpened ⟦<FileDisk<C> as SectorDisk>⟧) }
 {
-    if sources.len() > FILES {
+    if sources.len() > NEW_FILES {
         return Err(ProgramFault::Format(FormatFault::TooLarge));
     }
     match has_mark(file) {

@@ -150,7 +150,7 @@ pub fn show_opened<D: SectorDisk, W: Write>(
     let Some(info) = store.info(u64::from(file)) else {
         return Err(ShowFault::NoFile);
     };
-    copy_file(store, file as u8, info.length, writer)?;
+    copy_file(store, file as u16, info.length, writer)?;
     Ok(())
 }
 
@@ -187,8 +187,8 @@ impl From<WriteFault> for CopyFault {
 /// device failed.
 fn copy_file<D: SectorDisk, W: Write>(
     store: &mut Store<D>,
-    file: u8,
-    length: u32,
+    file: u16,
+    length: u64,
     writer: &mut W,
 ) -> Result<(), CopyFault>
     requires ready { IsReadyStore D.SectorDisk store.old }
@@ -201,7 +201,7 @@ fn copy_file<D: SectorDisk, W: Write>(
         (λ _. WritesBeginning (W.contents writer.old) (W.contents writer.new) bytes) }
 {
     let mut page = [0; PAGE_BYTES];
-    for k in 0..length.div_ceil(PAGE_BYTES as u32) {
+    for k in 0..length.div_ceil(PAGE_BYTES as u64) as u32 {
         match copy_page(store, FilePage { file, page: k }, length, &mut page, writer) {
             Ok(()) => {}
             Err(fault) => return Err(fault),
@@ -214,7 +214,7 @@ fn copy_file<D: SectorDisk, W: Write>(
 fn copy_page<D: SectorDisk, W: Write>(
     store: &mut Store<D>,
     page: FilePage,
-    length: u32,
+    length: u64,
     bytes: &mut [u8; 4096],
     writer: &mut W,
 ) -> Result<(), CopyFault>

@@ -7,12 +7,12 @@ use Rattle.residency.specs.{Picture.{Picture, entry, view, IsOwned, count_in, pa
 -- own copies by process and page, and pages of files and of objects
 abbrev rows : ℕ → ℕ
 rows zero = 65
-rows (suc zero) = 64
+rows (suc zero) = 4096
 rows (suc (suc k)) = object_limit
 
 abbrev places : ℕ → ℕ → ℕ → ℕ
 places mode zero p = user_end mode
-places mode (suc zero) p = 2 ^ 20
+places mode (suc zero) p = 2 ^ 30
 places mode (suc (suc k)) p = object_page_limit
 
 abbrev key_code : PageKey → Code
@@ -49,7 +49,7 @@ count-found f (suc n) some = elim (cases_Bool (f n)) [
 -- Where every slot is in use and one frame more needs one, the processes and files have more than there are slots.
 module _ {mode : ℕ} (c : Picture mode) (m : ℕ) (fit : IsFitBut c nowhere 0 m) (full : IsSwapFull c.slots) (n : ℕ) (needs : NeedsSlot c n)
     (user : (pid page : ℕ) → has_own (view c pid page) ≡ true → page < user_end mode)
-    (files : (p : FilePage) → c.place (File p) ≢ Home → (p.file < 64) × (p.page < 2 ^ 20))
+    (files : (p : FilePage) → c.place (File p) ≢ Home → (p.file < 4096) × (p.page < 2 ^ 30))
     (objects : (p : ObjectPage) → c.place (Object p) ≢ Home → (p.object < object_limit) × (p.page < object_page_limit))
     (shared : role_of c.frames n ≡ Private → 0 < count_of c.frames n) (has_seat : (pid page : ℕ) (z : Seat) → IsPage (top_level mode) page → seat (entry c pid page) ≡ Some z → has_own (view c pid page) ≡ true) where
   some_holder : (z : Seat) → IsOwned c z → 0 < count_in c z → (pid : ℕ) × (pid < 65) × (seat (entry c pid (page_in c fit.counted.0 z)) ≡ Some z)

@@ -34,7 +34,7 @@ page_where (Some a) object page is fits = page_backing a.backing is fits where
   page_backing (SharedOf p) is fits = absurd (false≢true is)
   page_backing (CommonOf p) is fits = let same : p.page ≡ page = eqb-true p.page page (and_parts (p.object == object) (p.page == page) is).1 in omega (arith, same, fits)
 
-module _ {mode : ℕ} (c : Picture mode) (fit : IsFit c) (sound : IsSound c.frames) (few : (f k : ℕ) → IsPageOf c.files f k → (f < 64) × (k < 2 ^ 20)) where
+module _ {mode : ℕ} (c : Picture mode) (fit : IsFit c) (sound : IsSound c.frames) (few : (f k : ℕ) → IsPageOf c.files f k → (f < 4096) × (k < 2 ^ 30)) where
   seen : (pid page : ℕ) → is_some (view c pid page) ≡ is_some (c.at pid page)
   unfolding view
   seen pid page = some_same (own_in c.frames c.slots (entry c pid page)) (c.at pid page)

@@ -26,7 +26,7 @@ module _ {mode : ℕ} where
     pub objects : (p : ObjectPage) → s.objects p.object p.page ≡ object_bytes c p
     pub blank : (p : ObjectPage) (bytes : List ℕ) → c.touched (Object p) ≡ false → held c (Object p) ≡ Some bytes → bytes ≡ zero_page
     pub held : (p : FilePage) (bytes : List ℕ) → held c (File p) ≡ Some bytes → s.volatile p.file p.page ≡ bytes
-    pub clean : (p : FilePage) → c.touched (File p) ≡ false → IsPageOf c.files p.file p.page → s.volatile p.file p.page ≡ s.durable p.file p.page
+    pub clean : (p : FilePage) → c.touched (File p) ≡ false → IsPageOf c.files p.file p.page → s.volatile p.file p.page ≡ s.durable.pages p.file p.page
 
 -- Every page of a file or an object has the bytes that it had, or went home untouched; none became touched or clean.
 module _ {mode : ℕ} where

@@ -16,4 +16,4 @@ pub homes : {M : Type 0} {m : Levels.Ghosts M} → {D E : Type 0} (g : Ghosts D)
     → IsHomeDurable g (disk_of old.store) (picture_of old) s
 homes g old new s shows reads keeps = λ p inside.
     let now = shows.stands (reads.kept keeps) (g.content (disk_of old.store)) (record { kept = λ k. inr refl }) in
-    now.same p.file p.page (inside.0, shows.pages.files p.file ∙ inside.1, inside.2)
+    now.same p.file p.page (inside.0, shows.files p.file ∙ shows.pages.files p.file ∙ inside.1, inside.2)

@@ -64,8 +64,8 @@ module _ (mode : ℕ) where
 abbrev pub IsNumbered : MapSource → Type 0
 IsNumbered Anon = Unit {0}
 IsNumbered Common = Unit {0}
-IsNumbered (Private file offset) = (file < 2 ^ 8) × (offset / 4096 < 2 ^ 32)
-IsNumbered (Shared file offset) = (file < 2 ^ 8) × (offset / 4096 < 2 ^ 32)
+IsNumbered (Private file offset) = (file < 2 ^ 16) × (offset / 4096 < 2 ^ 32)
+IsNumbered (Shared file offset) = (file < 2 ^ 16) × (offset / 4096 < 2 ^ 32)
 
 -- so many pages of a file are all under 2 ^ 32
 abbrev pub FitsFile : MapSource → ℕ → Type 0

@@ -83,7 +83,7 @@ fn file_refusal<D: SectorDisk>(
     writes: bool,
 ) -> Option<Errno>
     ensures asked { result ≡ first_of (file_checks (files_of store.now) file offset len writes) }
-    ensures number { IfNone result (file < 2 ^ 8) }
+    ensures number { IfNone result (file < 2 ^ 16) }
     ensures fits { IfNone result (offset / 4096 + page_count len ≤ 2 ^ 32) }
 {
     if offset % PAGE != 0 {
@@ -103,12 +103,12 @@ fn file_refusal<D: SectorDisk>(
 
 /// The page of a file that an offset is in.
 fn file_page(file: u64, offset: u64) -> FilePage
-    requires file { file < 2 ^ 8 }
+    requires file { file < 2 ^ 16 }
     requires page { offset / 4096 < 2 ^ 32 }
     ensures { result ≡ record { file = file; page = offset / 4096 } }
 {
     FilePage {
-        file: file as u8,
+        file: file as u16,
         page: (offset / PAGE) as u32,
     }
 }

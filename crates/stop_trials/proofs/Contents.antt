@@ -30,7 +30,7 @@ pub same_contents : (sectors : ℕ) (old new : Image) → (IsBadLayout sectors o
     → standing_contents sectors new ≡ standing_contents sectors old
 same_contents sectors old new layout journal stands =
     let now = stands (file_info sectors old) (standing_page sectors old) (stands_for_own sectors old layout journal) in
-    joined-same 64 (standing_bytes sectors new) (standing_bytes sectors old) (λ f lt. same_bytes sectors old new f (now.facts f) (now.same f))
+    joined-same 4096 (standing_bytes sectors new) (standing_bytes sectors old) (λ f lt. same_bytes sectors old new f (now.facts f) (now.same f))
 
 module _ {D : Type 0} (g : Ghosts D) where
   -- what an open store says of a file is what its device stands for

@@ -188,7 +188,7 @@ fn opens_and_reads(rt: HostRuntime) -> Result<(), Fail> {
         (0, facts(5000, false)),
         (1, facts(1, true)),
         (2, None),
-        (255, None),
+        (u16::MAX, None),
     ];
     for (n, info) in infos {
         equal(&rt, store.file(n), info);

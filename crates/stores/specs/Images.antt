@@ -3,7 +3,7 @@ use Rattle.std.specs.Prelude.{ℕ, ◌*◌, ◌≡◌, ◌⊎◌, Bool, true, fa
 use Rattle.std.specs.Option.{option_map}
 use Rattle.std.specs.Str.{bytes_eq}
 use Rattle.byteorder.specs.Endian.{little_number}
-use Rattle.vm_types.specs.declared.file.FileInfo.{FileInfo}
+use Rattle.vm_types.specs.{Files.{Contents}, declared.file.FileInfo.{FileInfo}}
 use Rattle.disk_model.specs.{Stop.{Image}}
 use Rattle.sync_journal.specs.{Commit.{one_journal}, Layout.{page_limit}}
 use Rattle.pool_journal.specs.{Journal.{free_count}, Pools.{pool_entry, pool_home_count, pool_named}}
@@ -130,6 +130,14 @@ StandsFor sectors files pages image = SaysFiles (says sectors image) files pages
 -- the files with the pages of before, or with those of after
 abbrev pub StandsForEither : ℕ → (ℕ → Option FileInfo) → (ℕ → ℕ → List ℕ) → (ℕ → ℕ → List ℕ) → Image → Type 0
 StandsForEither sectors files before after image = StandsFor sectors files before image ⊎ StandsFor sectors files after image
+
+-- the image stands for these contents
+abbrev pub StandsForContents : ℕ → Contents → Image → Type 0
+StandsForContents sectors contents image = StandsFor sectors contents.files contents.pages image
+
+-- or for one of two
+abbrev pub StandsForEitherContents : ℕ → Contents → Contents → Image → Type 0
+StandsForEitherContents sectors before after image = StandsForContents sectors before image ⊎ StandsForContents sectors after image
 
 -- how many pages a commit may take where no page stands in a slot: of a pool as many as both bodies have
 abbrev pub capacity_by : Bool → ℕ → ℕ

@@ -1,4 +1,4 @@
-//! A store of up to 64 files of fixed lengths on a row of sectors, of layout 2 or 4, in one set of words: whichever it is, its pages change all
+//! A store of files of fixed lengths on a row of sectors, up to 64 of layout 2 or 4,096 of layout 4, in one set of words: whichever it is, its pages change all
 //! at once or not at all, whatever moment the device stops at.
 //!
 //! Sector 0 is the mark: of layout 4 the bytes `FAMSYNC4` 64 times (`pool_store`), of layout 2 `FAMSYNC2` (`file_store`).

@@ -10,7 +10,7 @@ use pool_store::PoolStore;
 use sync_journal::PAGE_LIMIT;
 use vm_types::{FileInfo, FilePage};
 
-/// Up to 64 files of fixed lengths on a device.
+/// Up to 64 files of fixed lengths on a device, or of layout 4 up to 4,096.
 #[derive(Drop)]
 pub enum Store<D> {
     /// Of layout 2: with a journal of one commit.
@@ -21,7 +21,7 @@ pub enum Store<D> {
 
 impl<D: SectorDisk> Store<D> {
     /// The facts of file `n`, or none where the store has no such file.
-    pub fn file(&self, n: u8) -> Option<FileInfo>
+    pub fn file(&self, n: u16) -> Option<FileInfo>
         ensures { result ≡ files_of self.now n }
     {
         match self {

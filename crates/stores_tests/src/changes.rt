@@ -131,7 +131,7 @@ fn byte(rt: &impl Abort, store: &mut PoolStore<SimDisk>, page: FilePage) -> u8
 }
 
 /// Those of the first three pages of a file.
-fn file_bytes(rt: &impl Abort, store: &mut PoolStore<SimDisk>, file: u8) -> [u8; 3]
+fn file_bytes(rt: &impl Abort, store: &mut PoolStore<SimDisk>, file: u16) -> [u8; 3]
     requires { IsReadyPool ⟦<SimDisk as SectorDisk>⟧ store.old }
     ensures { IsReadyPool ⟦<SimDisk as SectorDisk>⟧ store.new }
 {

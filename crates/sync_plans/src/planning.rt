@@ -179,7 +179,7 @@ pub fn file_facts(
     alloc: Global,
     image: &[[u8; 512]],
     scratch: Scratch<'_>,
-    file: u8,
+    file: u16,
 ) -> Result<Option<FileInfo>, Refusal>
     ensures facts { IfOk result (λ info. info ≡ file_info (length image.now) (row image.now) file) }
     ensures store { OnOk result (IsStore (length image.now) (row image.now)) }

@@ -101,7 +101,7 @@ pub(crate) fn tidy<D: SectorDisk + Drop>(alloc: Global, disk: D) -> (D, Result<(
 pub(crate) fn facts<D: SectorDisk + Drop>(
     alloc: Global,
     disk: D,
-    file: u8,
+    file: u16,
 ) -> (D, Result<Option<FileInfo>, Refusal>)
     requires synced { D.keeps_model disk → (k : ℕ) → D.unsynced disk k → ⊥ }
     ensures facts { D.keeps_model result.0 → IfOk result.1 (λ info. info ≡ file_info (D.sector_count disk) (D.content disk) file) }

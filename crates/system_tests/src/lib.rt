@@ -16,6 +16,8 @@ mod histories;
 #[cfg(test)]
 mod limits;
 #[cfg(test)]
+mod many_files;
+#[cfg(test)]
 mod mappings;
 #[cfg(test)]
 mod private_memory;

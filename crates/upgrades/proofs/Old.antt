@@ -7,7 +7,17 @@ use Rattle.sync_journal.specs.declared.{old_journal.OldJournal.{OldJournal}, ver
 use Rattle.file_store.proofs.{Homes.{entry_behind}, Openings.{content_is}, Pieces.{trimmed-trimmed}}
 use Rattle.file_store.specs.{Directory.{IsSoundDirectory}, Layout.{bytes_inside, padded_page}, Standing.{IsHeadIn, listed_entry, page_standing_in}, Store.{entry_of}, Upgrade.{IsOldEntry, IsOldFile, IsOldHead, IsOldPage as IsPageOfEntry, IsOldStore, old_entry}}
 use Rattle.file_store.specs.declared.{directory.Entry.{Entry}, old_store.OldStore.{OldStore}}
-use Rattle.upgrades.specs.Old.{IsOldPage, IsReadable, file_info, files_of, standing_page, version_in}
+use Rattle.upgrades.specs.{NewPool.{HaveShortLengths, files_in}, Old.{IsOldPage, IsReadable, file_info, files_of, standing_page, version_in}}
+
+-- files of a store have lengths of four bytes,
+short_file : (store : OldStore) (f : ℕ) (info : FileInfo) → files_of store f ≡ Some info → info.length < 2 ^ 32
+short_file store f info is =
+    let b = entry_behind (entry_of store.directory f) info is in let size = ap (λ (i : FileInfo). i.length) b.2 in let short = store.directory.lengths f b.0 b.1 in
+    omega (arith, size, short)
+
+-- and so have those of a list of them
+pub short_listed : (store : OldStore) (list : List (Option FileInfo)) → ((f : ℕ) → files_in list f ≡ files_of store f) → HaveShortLengths list
+short_listed store list are f info is = short_file store f info (sym (are f) ∙ is)
 
 -- no two homes stand in one sector
 homes_apart : (journal : OldJournal) (image : Image) → length (old_homes journal) ≤ (old_sizes journal).most → StandsAsFound journal image → (a b k : ℕ)
@@ -142,9 +152,7 @@ module _ {D : Type 0} (g : Ghosts D) where
       -- the files' numbers and lengths are in their bounds
       pub bounded_is : (f : ℕ) (info : FileInfo) → file_info (g.content disk) f ≡ Some info → (f < 64) × (info.length < 2 ^ 32)
       bounded_is f info is =
-          let directory = store.directory in
-          let b = entry_behind (entry_of directory f) info (file_is f ∙ is) in let size = ap (λ (i : FileInfo). i.length) b.2 in let short = directory.lengths f b.0 b.1 in
-          (directory.numbers f b.0 b.1, omega (arith, size, short))
+          let b = entry_behind (entry_of store.directory f) info (file_is f ∙ is) in (store.directory.numbers f b.0 b.1, short_file store f info (file_is f ∙ is))
 
 -- a page as it stands has zeros past its file's end
 pub page_is_cut : (image : Image) (f k : ℕ) (info : FileInfo) → file_info image f ≡ Some info → padded_page (bytes_inside info.length k) (standing_page image f k) ≡ standing_page image f k

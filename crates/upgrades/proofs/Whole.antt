@@ -139,7 +139,7 @@ module _ (files : ℕ → Option FileInfo) (pages : ℕ → ℕ → List ℕ) (a
     bounded = λ f e is.
         let from = comes_from f e (sym (listed f) ∙ is) in let bound = are.bounded f from.info from.at in let size = ap (λ (x : Entry). x.length) from.is in
         let count = ap (λ (x : Entry). x.extent_count) from.is in let one = counted (first_of files f) (pages_of_length from.info.length) in
-        (bound.0, omega (arith, bound.1, size), omega (arith, count, one));
+        (omega (arith, bound.0), omega (arith, bound.1, size), omega (arith, count, one));
     good = good_entries n fit;
   }
 

@@ -1,6 +1,7 @@
 -- Pages are copied from the old store to the device of the new one.
 use Rattle.std.specs.Prelude.{ℕ, ◌<◌, ◌≤◌, ◌≡◌, List, Option, Result, OnOk}
-use Rattle.vm_types.specs.{Limits.{file_limit}, declared.file.FileInfo.{FileInfo}}
+use Rattle.vm_types.specs.declared.file.FileInfo.{FileInfo}
+use Rattle.file_store.specs.Layout.{listed_files}
 use Rattle.disk_model.specs.Stop.{Image, NamesOnce}
 use Rattle.disk_model.specs.declared.sector_disk.SectorDisk.{Ghosts}
 use Rattle.directories.specs.Kinds.{IsKind}
@@ -23,7 +24,7 @@ module _ {D E : Type 0} (g : Ghosts D) (h : Ghosts E) where
     pub pool : HasPool h sizes new
     -- and, behind the directory, a home for each page of the files of this list, which are the store's.
     pub files : (f : ℕ) → files_in list f ≡ files_of store f
-    pub homes : first_of (files_in list) file_limit ≤ sizes.homes
+    pub homes : first_of (files_in list) listed_files ≤ sizes.homes
 
 module _ {D E T : Type 0} (g : Ghosts D) (h : Ghosts E) where
   -- Pages of the old store are copied:

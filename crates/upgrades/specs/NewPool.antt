@@ -1,19 +1,22 @@
 -- What a store of layout 4 is made of whose files are those of an older one: each keeps its number, and has its homes in one extent.
-use Rattle.std.specs.Prelude.{ℕ, zero, suc, ◌+◌, ◌*◌, ◌<◌, ◌≤◌, ◌≡◌, ◌⊎◌, List, length, get_or, Option, Some, None}
+use Rattle.std.specs.Prelude.{ℕ, zero, suc, ◌+◌, ◌*◌, ◌^◌, ◌<◌, ◌≤◌, ◌≡◌, ◌⊎◌, List, length, get_or, Option, Some, None}
 use Rattle.std.specs.Option.{option_map}
-use Rattle.vm_types.specs.Limits.{file_limit}
 use Rattle.vm_types.specs.declared.file.FileInfo.{FileInfo}
 use Rattle.disk_model.specs.{Sectors.{part_of}, Stop.{Image}}
 use Rattle.pool_journal.specs.{Clearing.{IsEmptyPool, IsHeadOfPool}, Pools.{pool_home, pool_home_count}}
 use Rattle.directories.specs.{Entries.{SaysEntry, entry_bytes}, Kinds.{IsKind}}
 use Rattle.directories.specs.declared.entry.Entry.{Entry}
-use Rattle.file_store.specs.Layout.{IsMark, pages_of_length}
+use Rattle.file_store.specs.Layout.{IsMark, pages_of_length, listed_files}
 use Rattle.pool_store.specs.{Files.{StandsFor as PoolStandsFor}, Format.{IsHomeSector, IsPoolStoreSector, extents_made, extents_room, home_part, new_pages}, Pools.{entry_standing, pool_mark}, Resume.{pool_on}}
 use Rattle.upgrades.specs.Old.{IsBadLayout, StandsFor, file_info, standing_page}
 
 -- the files of a list
 abbrev pub files_in : List (Option FileInfo) → ℕ → Option FileInfo
 files_in list f = get_or list f None
+
+-- and they are all of lengths of four bytes, as those that an older store's directory can say
+abbrev pub HaveShortLengths : List (Option FileInfo) → Type 0
+HaveShortLengths list = (f : ℕ) (info : FileInfo) → files_in list f ≡ Some info → info.length < 2 ^ 32
 
 -- how many pages a file has, where there is one
 abbrev pub pages_of : Option FileInfo → ℕ
@@ -44,12 +47,12 @@ entry_kept files f = option_map (entry_made (first_of files f)) (files f)
 -- A device of so many sectors has room for a store of these files with maps of m blocks: for pool and directory, and for the homes of the files.
 pub record HasRoomFor (m sectors : ℕ) (files : ℕ → Option FileInfo) : Type 0 where
   pub front : pool_home m new_pages ≤ sectors
-  pub homes : first_of files file_limit ≤ pool_home_count m sectors
+  pub homes : first_of files listed_files ≤ pool_home_count m sectors
 
 -- or it has not
 pub data IsTooSmall (m sectors : ℕ) (files : ℕ → Option FileInfo) : Type 0 where
   FewSectors : sectors < pool_home m new_pages → IsTooSmall m sectors files
-  FewHomes : pool_home_count m sectors < first_of files file_limit → IsTooSmall m sectors files
+  FewHomes : pool_home_count m sectors < first_of files listed_files → IsTooSmall m sectors files
 
 -- A page of the directory is made: it is a page, and says what each of its 16 files is.
 pub record IsDirectoryPage (files : ℕ → Option FileInfo) (q : ℕ) (page : List ℕ) : Type 0 where
@@ -82,7 +85,7 @@ pub record HasTables (m : ℕ) (files : ℕ → Option FileInfo) (image : Image)
 pub record IsInnerUpgrade (m : ℕ) (files : ℕ → Option FileInfo) (pages : ℕ → ℕ → List ℕ) (image : Image) : Type 0 where
   pub tables : HasTables m files image
   pub open tables use *
-  pub held : HoldsFiles m files pages file_limit image
+  pub held : HoldsFiles m files pages listed_files image
 
 -- It has all but the mark.
 pub record IsUnmarkedUpgrade (m : ℕ) (files : ℕ → Option FileInfo) (pages : ℕ → ℕ → List ℕ) (image : Image) : Type 0 where
@@ -92,7 +95,7 @@ pub record IsUnmarkedUpgrade (m : ℕ) (files : ℕ → Option FileInfo) (pages 
 
 -- all of a store of the files of the old image
 abbrev pub IsUpgradeSector : ℕ → Image → ℕ → Type 0
-IsUpgradeSector m old k = IsPoolStoreSector m (pages_before (file_info old) file_limit) k
+IsUpgradeSector m old k = IsPoolStoreSector m (pages_before (file_info old) listed_files) k
 
 -- The image is an upgraded store on a device of so many sectors:
 pub record IsUpgradeOf (m old_sectors sectors : ℕ) (old image : Image) : Type 0 where

@@ -1,26 +1,28 @@
 //! The directory of the new store.
-ghost use Rattle.std.specs.Prelude.{◌≡◌, ◌≤◌, ◌<◌, ◌+◌, IfSome};
+ghost use Rattle.std.specs.Prelude.{◌≡◌, ◌≤◌, ◌<◌, ◌+◌, ◌^◌, IfSome};
 ghost use Rattle.pool_journal.specs.Sizes.{HasPool};
 ghost use Rattle.sync_journal.specs.Steps.{WritesInto};
 ghost use Rattle.pool_store.specs.Format.{IsHomeSector, new_pages};
-ghost use Rattle.upgrades.specs.NewPool.{files_in, entry_kept, entry_made, IsDirectoryPage, HoldsDirectory};
+ghost use Rattle.upgrades.specs.NewPool.{files_in, entry_kept, entry_made, HaveShortLengths, IsDirectoryPage, HoldsDirectory};
 
 use crate::places::{first_of, pages_of};
 use directories::{Entry, PAGE_ENTRIES, write_entry};
 use disk_model::{DiskFault, SectorDisk};
+use file_store::LISTED_FILES;
 use pool_journal::PoolSizes;
 use pool_store::{DIRECTORY_PAGES, extents_of};
 use sync_journal::write_page;
-use vm_types::{FILES, FileInfo};
+use vm_types::FileInfo;
 
 /// Writes the directory of these files to its homes, and syncs nothing.
 pub(crate) fn write_directory<D: SectorDisk>(
     disk: &mut D,
     sizes: PoolSizes,
-    files: &[Option<FileInfo>; FILES],
+    files: &[Option<FileInfo>; LISTED_FILES],
 ) -> Result<(), DiskFault>
     requires pool { HasPool D.SectorDisk sizes disk.old }
     requires homes { new_pages ≤ sizes.homes }
+    requires short { HaveShortLengths files.now }
     ensures { WritesInto D.SectorDisk (IsHomeSector sizes.blocks 0 new_pages) (IsHomeSector sizes.blocks 0 new_pages) (HoldsDirectory sizes.blocks (files_in files.now) new_pages (D.content disk.new)) disk.old disk.new result }
 {
     for page in 0..DIRECTORY_PAGES {
@@ -32,8 +34,9 @@ pub(crate) fn write_directory<D: SectorDisk>(
 }
 
 /// A page of the directory of these files.
-fn directory_page(files: &[Option<FileInfo>; FILES], page: usize) -> [u8; 4096]
-    requires { page < 4 }
+fn directory_page(files: &[Option<FileInfo>; LISTED_FILES], page: usize) -> [u8; 4096]
+    requires place { page < 4 }
+    requires short { HaveShortLengths files.now }
     ensures { IsDirectoryPage (files_in files.now) page result }
 {
     let mut bytes = [0; 4096];
@@ -45,8 +48,9 @@ fn directory_page(files: &[Option<FileInfo>; FILES], page: usize) -> [u8; 4096]
 }
 
 /// The entry of file `f`, or none where there is no such file.
-fn new_entry(files: &[Option<FileInfo>; FILES], f: usize) -> Option<Entry>
-    requires { f < 64 }
+fn new_entry(files: &[Option<FileInfo>; LISTED_FILES], f: usize) -> Option<Entry>
+    requires place { f < 64 }
+    requires short { HaveShortLengths files.now }
     ensures is { result ≡ entry_kept (files_in files.now) f }
     ensures few { IfSome result (λ e. e.extent_count ≤ 30) }
 {
@@ -56,13 +60,14 @@ fn new_entry(files: &[Option<FileInfo>; FILES], f: usize) -> Option<Entry>
 
 /// The entry of a file whose homes follow one another from `first` on.
 fn entry_of(info: FileInfo, first: u32) -> Entry
+    requires { info.length < 2 ^ 32 }
     ensures is { result ≡ entry_made first info }
     ensures few { result.extent_count ≤ 30 }
 {
     let count = pages_of(Some(info));
     Entry {
         read_only: info.read_only,
-        length: u64::from(info.length),
+        length: info.length,
         extent_count: count.min(1),
         extents: extents_of(first, count),
     }

@@ -1,10 +1,10 @@
 //! Stores of layout 2 or 3, made anew in layout 4.
-ghost use Rattle.std.specs.Prelude.{◌≡◌, ◌<◌, OnOk, IsErrOf};
+ghost use Rattle.std.specs.Prelude.{OnOk, IsErrOf};
 ghost use Rattle.disk_model.specs.{Moments.{Nothing}, Stop.{NamesOnce}};
 ghost use Rattle.directories.specs.Kinds.{IsMapSize};
-ghost use Rattle.sync_journal.specs.{Runs.{RunsOnDevice}};
+ghost use Rattle.sync_journal.specs.Runs.{RunsOnDevice};
 ghost use Rattle.file_store.specs.{Format.{IsMarkSector}, Layout.{IsMark}, Upgraded.{HasCheckCauses}};
-ghost use Rattle.upgrades.specs.NewPool.{files_in, HasRoomFor, IsTooSmall};
+ghost use Rattle.upgrades.specs.NewPool.{files_in, HasRoomFor, HaveShortLengths, IsTooSmall};
 ghost use Rattle.upgrades.specs.Upgraded.{UpgradesToPool};
 
 use crate::finding::find;
@@ -12,10 +12,10 @@ use crate::old_files::list_files;
 use crate::places::has_room;
 use crate::writing::write_unmarked;
 use disk_model::{SECTOR_BYTES, SectorDisk};
-use file_store::{MARK_SECTOR, UpgradeFault, is_any_mark};
+use file_store::{LISTED_FILES, MARK_SECTOR, UpgradeFault, is_any_mark};
 use pool_journal::PoolSizes;
 use pool_store::write_mark;
-use vm_types::{FILES, FileInfo};
+use vm_types::FileInfo;
 
 /// Makes a store of layout 4 on `new`, with maps of `blocks` blocks, 1 to 2,048, and a directory of 4 pages, that stands for what the store of layout 2
 /// or 3 on `old` stands for. Each file keeps its number, its length and whether it may only be read; its pages are one extent, none of an empty file, in
@@ -49,9 +49,10 @@ pub fn upgrade<D: SectorDisk, E: SectorDisk>(
 fn check_new<E: SectorDisk>(
     new: &mut E,
     blocks: u32,
-    files: &[Option<FileInfo>; FILES],
+    files: &[Option<FileInfo>; LISTED_FILES],
 ) -> Result<(), UpgradeFault>
-    requires { IsMapSize blocks }
+    requires maps { IsMapSize blocks }
+    requires short { HaveShortLengths files.now }
     ensures run { RunsOnDevice E.SectorDisk Nothing new.old new.new }
     ensures once { NamesOnce IsMarkSector (E.asked new.old) (E.asked new.new) }
     ensures causes { HasCheckCauses (E.failures new.old) (E.failures new.new) result }

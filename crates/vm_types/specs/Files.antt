@@ -7,6 +7,11 @@ use Rattle.vm_types.specs.View.{Pages}
 abbrev pub Files : Type 0
 Files = ℕ → Option FileInfo
 
+-- What files hold: which there are, with their lengths, and the bytes of each of their pages.
+pub record Contents : Type 0 where
+  pub files : Files
+  pub pages : Pages
+
 -- whether a page begins at or past the end of its file
 abbrev pub is_past_end_of : Option FileInfo → ℕ → Bool
 is_past_end_of None page = true

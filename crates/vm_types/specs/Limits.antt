@@ -25,11 +25,15 @@ widest_end = 2 ^ 35
 
 -- the most files of an image
 abbrev pub file_limit : ℕ
-file_limit = 64
+file_limit = 4096
 
--- more pages than any file has, whose length is below 2 ^ 32
+-- the most pages of a file: an image has no more homes
 abbrev pub file_page_limit : ℕ
-file_page_limit = 2 ^ 20
+file_page_limit = 2 ^ 30
+
+-- the most bytes of a file, 4,096 for each of those pages
+abbrev pub longest_file : ℕ
+longest_file = 2 ^ 42
 
 -- the most objects that processes name at once: each of 64 has at most 256 runs, and a run names one
 abbrev pub named_limit : ℕ

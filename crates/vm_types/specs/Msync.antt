@@ -10,7 +10,7 @@ use Rattle.vm_types.specs.declared.region.Backing.{Backing}
 use Rattle.vm_types.specs.declared.region.Backing.TheVariants.{Anon, Private, Shared, Common}
 use Rattle.vm_types.specs.Checks.{first_of, pages_from}
 use Rattle.vm_types.specs.Counting.{any_below, count_below, sum_below}
-use Rattle.vm_types.specs.Files.{trimmed}
+use Rattle.vm_types.specs.Files.{trimmed, Contents}
 use Rattle.vm_types.specs.Rows.{is_covered}
 use Rattle.vm_types.specs.State.{State}
 use Rattle.vm_types.specs.View.{Pages, View, attrs_of}
@@ -31,7 +31,7 @@ shares (Some view) file page = is_shared_page view.attr.backing file page
 abbrev pub touched_in : State → ℕ → ℕ → ℕ → ℕ → ℕ → Bool
 touched_in s pid first count file page = s.touched file page && any_below (λ i. shares (s.views pid (first + i)) file page) count
 
--- how many file pages those are: a file has fewer than 2 ^ 20 pages, and there are 64
+-- how many file pages those are, of all files that there may be
 unfoldable pub touched_count : State → ℕ → ℕ → ℕ → ℕ
 touched_count s pid first count = sum_below (λ file. count_below (touched_in s pid first count file) file_page_limit) file_limit
 
@@ -62,15 +62,19 @@ msync_ruling s pid addr len mode =
     or_else (first_of ((not (is_covered (attrs_of (s.views pid)) (addr / 4096) count), ENOMEM) ∷ []))
     (row_ruling s pid (addr / 4096) count mode)))
 
--- the durable pages with the touched ones of a row as the mappings see them, and zeros past the end of a file
-abbrev pub committed : State → ℕ → ℕ → ℕ → Pages → Pages
-committed s pid first count before =
+-- pages with the touched ones of a row as the mappings see them, and zeros past the end of a file
+abbrev pub committed_pages : State → ℕ → ℕ → ℕ → Pages → Pages
+committed_pages s pid first count before =
     λ file page. if touched_in s pid first count file page then trimmed s.files file page (s.volatile file page) else before file page
+
+-- the same of all that the files hold
+abbrev pub committed : State → ℕ → ℕ → ℕ → Contents → Contents
+committed s pid first count before = record before { pages = committed_pages s pid first count before.pages }
 
 -- the state after a row was made durable
 abbrev pub synced : State → ℕ → ℕ → ℕ → State
 synced s pid first count = record s {
   durable = committed s pid first count s.durable;
-  volatile = committed s pid first count s.volatile;
+  volatile = committed_pages s pid first count s.volatile;
   touched = λ file page. s.touched file page && not (touched_in s pid first count file page);
 }

@@ -9,7 +9,7 @@ use Rattle.vm_types.specs.declared.reply.Reply.{Reply}
 use Rattle.vm_types.specs.declared.reply.Reply.TheVariants.{Process, Address, Done, Value, Faulted, Refused, Stalled, Halted, Past}
 use Rattle.vm_types.specs.State.{State}
 use Rattle.vm_types.specs.Step.{ruling, takes}
-use Rattle.vm_types.specs.View.{Pages}
+use Rattle.vm_types.specs.Files.{Contents}
 
 -- A command as it was answered, and the state before it.
 pub record Event : Type 0 where
@@ -66,13 +66,13 @@ may_have_taken (Stalled stall) = false
 may_have_taken Halted = false
 may_have_taken (Past past) = false
 
--- the durable pages with this command taken as done, whole
-abbrev pub after_event : Event → Pages → Pages
+-- what files hold with this command taken as done, whole
+abbrev pub after_event : Event → Contents → Contents
 after_event event before =
     if may_have_taken event.reply then takes event.state (ruling event.state event.command) before else before
 
--- the durable pages with the first i msyncs of the events taken as done
-abbrev pub after_msyncs : Pages → List Event → ℕ → Pages
+-- what files hold with the first i msyncs of the events taken as done
+abbrev pub after_msyncs : Contents → List Event → ℕ → Contents
 after_msyncs before [] i = before
 after_msyncs before (event ∷ events) zero = before
 after_msyncs before (event ∷ events) (suc i) =
@@ -91,8 +91,8 @@ acknowledged (event ∷ events) zero = 0
 acknowledged (event ∷ events) (suc k) =
     if is_msync event.command then this_or_further event (acknowledged events k) else acknowledged events k
 
--- These pages are what the first i msyncs left, each whole, and i holds each that was acknowledged among the first k events.
-pub record IsPrefixHolding (before : Pages) (events : List Event) (k : ℕ) (pages : Pages) : Type 0 where
+-- The files hold what the first i msyncs left, each whole, and i holds each that was acknowledged among the first k events.
+pub record IsPrefixHolding (before : Contents) (events : List Event) (k : ℕ) (contents : Contents) : Type 0 where
   pub i : ℕ
   pub holds : acknowledged events k ≤ i
-  pub same : pages ≡ after_msyncs before events i
+  pub same : contents ≡ after_msyncs before events i

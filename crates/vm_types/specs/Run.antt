@@ -8,19 +8,19 @@ use Rattle.vm_types.specs.declared.reply.Reply.TheVariants.{Refused, Stalled, Ha
 use Rattle.vm_types.specs.Stalls.{Causes, MayStall}
 use Rattle.vm_types.specs.State.{State, IsRunning, halted}
 use Rattle.vm_types.specs.Step.{outcome, commits, noted}
-use Rattle.vm_types.specs.View.{Pages}
+use Rattle.vm_types.specs.Files.{Contents}
 
 -- From s the machine may give this reply to the command and go on to t.
 pub data Step (causes : Causes) (s : State) (command : Command) (reply : Reply) (t : State) : Type 0 where
   -- the reply and state of the call's row, with the fault of an access put into the history
   Answers : IsRunning s → reply ≡ (outcome s command).reply → t ≡ noted command reply (outcome s command).state → Step causes s command reply t
   -- the commit of an msync failed with the store: what it leaves is before it or after it
-  Fails : (after : Pages) → IsRunning s → commits s command ≡ Some after → causes.store
+  Fails : (after : Contents) → IsRunning s → commits s command ≡ Some after → causes.store
       → reply ≡ Refused EIO → t ≡ halted s after → Step causes s command reply t
   -- nothing was done
   Stalls : (stall : Stall) → IsRunning s → MayStall causes s command stall → reply ≡ Stalled stall → t ≡ s → Step causes s command reply t
   -- the machine has halted
-  Stays : (ends : List Pages) → s.ends ≡ Some ends → reply ≡ Halted → t ≡ s → Step causes s command reply t
+  Stays : (ends : List Contents) → s.ends ≡ Some ends → reply ≡ Halted → t ≡ s → Step causes s command reply t
 
 -- One step after another, whatever came to pass in each.
 abbrev pub Run : (ℕ → Causes) → ℕ → State → List Command → List Reply → State → Type 0

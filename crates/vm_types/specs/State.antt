@@ -1,6 +1,6 @@
 -- The flat model: processes as maps of pages, files as rows of pages, and objects. No frames, tables, slots or journal.
 use Rattle.std.specs.Prelude.{ℕ, ◌==◌, ◌&&◌, if◌then◌else◌, Bool, List, [], ◌∷◌, Option, Some, None, ◌≡◌}
-use Rattle.vm_types.specs.Files.{Files}
+use Rattle.vm_types.specs.Files.{Files, Contents}
 use Rattle.vm_types.specs.History.{Past}
 use Rattle.vm_types.specs.declared.region.Backing.{Backing}
 use Rattle.vm_types.specs.declared.region.Backing.TheVariants.{Anon, Private, Shared, Common}
@@ -19,8 +19,8 @@ pub record State : Type 0 where
   pub most : ℕ
   -- the bytes of each file page that all mappings see
   pub volatile : Pages
-  -- the bytes of each file page that outlive a stop
-  pub durable : Pages
+  -- what of the files outlives a stop
+  pub durable : Contents
   -- the file pages stored to through a shared mapping and not made durable since: file, page
   pub touched : ℕ → ℕ → Bool
   -- the pages of shared anonymous memory that were stored to and that a process still has: object, page
@@ -28,13 +28,13 @@ pub record State : Type 0 where
   -- the last faults of accesses, oldest first, each with its process
   pub past : Past
   -- none while the machine runs; once it has halted, the contents that a stop may leave
-  pub ends : Option (List Pages)
+  pub ends : Option (List Contents)
 
 abbrev pub IsRunning : State → Type 0
 IsRunning s = s.ends ≡ None
 
 -- the machine halts, with the files as they were or as a commit would leave them
-abbrev pub halted : State → Pages → State
+abbrev pub halted : State → Contents → State
 halted s after = record s { ends = Some (s.durable ∷ after ∷ []) }
 
 -- a page's bytes, or zeros where it has none

@@ -27,7 +27,8 @@ use Rattle.vm_types.specs.Ranges.{munmap_checks, without_row, asked_checks, row_
 use Rattle.vm_types.specs.Rows.{is_covered}
 use Rattle.vm_types.specs.State.{State, shown}
 use Rattle.vm_types.specs.Verdict.{Verdict, Fine, Faults, verdict, fault_of}
-use Rattle.vm_types.specs.View.{Pages, View, zero_page}
+use Rattle.vm_types.specs.Files.{Contents}
+use Rattle.vm_types.specs.View.{View, zero_page}
 use Rattle.vm_types.specs.Width.{byte_count}
 
 -- a reply, and the state after it
@@ -186,20 +187,20 @@ ruling s (Load pid addr width) = Passes
 ruling s (Store pid addr value) = Passes
 ruling s (Fetch pid addr) = Passes
 
--- the durable pages with what is taken made durable, all of it at once
-abbrev pub takes : State → Ruling → Pages → Pages
+-- what files hold with what is taken made durable, all of it at once
+abbrev pub takes : State → Ruling → Contents → Contents
 takes s (Refuses errno) before = before
 takes s Passes before = before
 takes s (Takes pid first count) before = committed s pid first count before
 
 -- what a commit would leave durable, where there is one
-abbrev pub commit_of : State → Ruling → Option Pages
+abbrev pub commit_of : State → Ruling → Option Contents
 commit_of s (Refuses errno) = None
 commit_of s Passes = None
 commit_of s (Takes pid first count) = Some (committed s pid first count s.durable)
 
 -- the same of a command
-abbrev pub commits : State → Command → Option Pages
+abbrev pub commits : State → Command → Option Contents
 commits s command = commit_of s (ruling s command)
 
 -- a process with two pages of anonymous memory: page 16 to be read and written, with its first byte stored, and page 17
@@ -218,7 +219,7 @@ sample_state count = record {
   files = λ file. None;
   most = 0;
   volatile = λ file page. zero_page;
-  durable = λ file page. zero_page;
+  durable = record { files = λ file. None; pages = λ file page. zero_page };
   touched = λ file page. false;
   objects = λ object page. None;
   past = [];

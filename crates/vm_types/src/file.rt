@@ -4,18 +4,18 @@ ghost use Rattle.vm_types.specs.Files.{bytes_inside};
 
 use crate::PAGE_BYTES;
 
-/// A page of a file: the file's number, 0 to 63, and the page's, counted from 0 in pages of 4,096 bytes.
+/// A page of a file: the file's number, 0 to 4,095, and the page's, counted from 0 in pages of 4,096 bytes.
 #[repr(C)]
 #[derive(Clone, Copy, Debug, PartialEq, Eq)]
 pub struct FilePage {
-    pub file: u8,
+    pub file: u16,
     pub page: u32,
 }
 
-/// What is fixed of a file: its length in bytes, and whether it may only be read.
+/// What is fixed of a file: its length in bytes, 2^42 at most, and whether it may only be read.
 #[derive(Clone, Copy, Debug, PartialEq, Eq)]
 pub struct FileInfo {
-    pub length: u32,
+    pub length: u64,
     pub read_only: bool,
 }
 
@@ -26,8 +26,6 @@ impl FileInfo {
         ensures most { result ≤ 4096 }
     {
         let before = PAGE_BYTES as u64 * u64::from(page);
-        u64::from(self.length)
-            .saturating_sub(before)
-            .min(PAGE_BYTES as u64) as usize
+        self.length.saturating_sub(before).min(PAGE_BYTES as u64) as usize
     }
 }

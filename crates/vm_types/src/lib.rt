@@ -38,7 +38,10 @@ pub const USER_START: u64 = 16;
 pub const PROCESSES: usize = 64;
 
 /// The most files of an image; their numbers are 0 to one less.
-pub const FILES: usize = 64;
+pub const FILES: usize = 4096;
+
+/// The most bytes of a file: its pages are 2^30 at most.
+pub const LONGEST_FILE: u64 = 1 << 42;
 
 /// The most objects that processes name at once: each has at most 256 runs, and a run names one. The number of a new
 /// object is at most this.

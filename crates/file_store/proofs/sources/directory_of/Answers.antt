@@ -1,5 +1,5 @@
 use Rattle.file_store.proofs.{Encoded.{renewed, entry_before, entry_here, zeros_behind, zero_entry, no_file}, Entries.{entry_in-inside}, Names.{◌≡◌, ℕ, ◌+◌, ◌-◌, ◌*◌, ◌<◌, ◌≤◌, ⊎_elim, length, take, drop, refl, sym, ap, subst, ◌∙◌, arith}}
-use Rattle.file_store.proofs.{Names.{cases_eq, cases_lt, take_all, get_or-drop, slice_get_read, length_put}, NewStores.{first_home-rest, entry_written}, Pieces.{length_mid, get_or-zeros}, Totals.{total_pages-rest}}
+use Rattle.file_store.proofs.{Names.{cases_eq, cases_lt, take_all, get_or-drop, slice_get_read, length_put, FileInfo}, NewStores.{first_home-rest, entry_written}, Pieces.{length_mid, get_or-zeros}, Totals.{total_pages-rest}}
 use Rattle.{file_store.specs.{Directory.{decoded, entry_bytes}, Format.{info_of, first_home, entry_given}}, std.proofs.lemmas.List.{length-drop}}
 use Rattle.file_store.proofs.sources.directory_of.Goals as goal
 
@@ -25,7 +25,9 @@ loop-f-preserved g c =
       rest = omega (arith, e, inv.rest, c.pages-first.ensures.count);
       entries = λ n less. ⊎_elim
           (λ same.
-          let written = entry_written sources f c.loop-f.first (info_of c.index-sources-f.result) c.index-sources-f.result at first refl in
+          let locked = c.index-sources-f.result.read_only in let info : FileInfo = record { length = c.from.result; read_only = locked } in
+          let info_is : info ≡ info_of c.index-sources-f.result = ap (λ n. record { length = n; read_only = locked }) c.from.ensures in
+          let written = entry_written sources f c.loop-f.first info c.index-sources-f.result at first info_is in
           let read : decoded (entry_bytes (renewed f sector bytes inv.size few within others) f) ≡ entry_given sources f = entry_here f sector bytes inv.size few within others ∙ c.encode.ensures.entry ∙ written in
           subst (λ k. decoded (entry_bytes (renewed f sector bytes inv.size few within others) k) ≡ entry_given sources k) (sym same) read)
           (λ other. entry_before f sector bytes inv.size few within others n (omega (arith, less, other)) ∙ inv.entries n (omega (arith, less, other)))

@@ -1,17 +1,16 @@
-use Rattle.{std.proofs.Common.{◌∙◌}, lives.proofs.{Agreeing.{same_files, same_pages}, Lives.{lives_most, still_stands}}}
+use Rattle.{std.proofs.Common.{◌∙◌, sym}, lives.proofs.{Agreeing.{same_contents}, Lives.{lives_most, still_stands}}}
 use Rattle.lives.proofs.laws.boot_after_lives.Goals as goal
 
 pub returns : goal.returns
-returns g c = λ files before lives store m holds keeps boots.
-    let left = still_stands g.D.SectorDisk g.E.SectorDisk files before lives store holds in
-    let s = boots.state in
-    let booted = boots.stands keeps in
-    let sectors = g.D.SectorDisk.sector_count store in (
+returns g c = λ before lives store m holds keeps boots.
+    let left = still_stands g.D.SectorDisk g.E.SectorDisk before lives store holds in
+    let sectors = g.D.SectorDisk.sector_count store in
+    let agree = same_contents sectors boots.state.durable left.0 (g.D.SectorDisk.content store) (boots.stands keeps) left.2 in (
       left.0,
       left.1,
       record {
-        facts = same_files sectors s.files files s.durable left.0 (g.D.SectorDisk.content store) booted left.2;
-        seen = λ f k inside. boots.start.same f k ∙ same_pages sectors s.files files s.durable left.0 (g.D.SectorDisk.content store) booted left.2 f k inside;
+        facts = λ f. sym (boots.start.files f) ∙ agree.files f;
+        seen = λ f k inside. boots.start.same f k ∙ agree.pages f k inside;
         most = boots.most keeps ∙ lives_most g.D.SectorDisk g.E.SectorDisk sectors lives holds.first (g.D.SectorDisk.content store) holds.lived;
       },
     )

@@ -8,8 +8,8 @@ returns-in-Err-clause-fails g c =
     record {
       failed = λ keeps synced. early_life g.D.SectorDisk g.E.SectorDisk c.args.devices.store c.in-Err.fault.1 keeps synced (c.in-Err.ensures.err_moments.any_moment keeps synced)
           (c.in-Err.ensures.err_moments.most_moment keeps synced);
-      good_layout = λ keeps files before lives holds bad. (stands files before lives c.args.devices.store holds).2.layout (refuses.bad_layout keeps bad);
-      good_journal = λ keeps files before lives holds bad. (stands files before lives c.args.devices.store holds).2.journal (refuses.bad_journal keeps bad);
+      good_layout = λ keeps before lives holds bad. (stands before lives c.args.devices.store holds).2.layout (refuses.bad_layout keeps bad);
+      good_journal = λ keeps before lives holds bad. (stands before lives c.args.devices.store holds).2.journal (refuses.bad_journal keeps bad);
     }
 
 pub returns-clause-lived : goal.returns-clause-lived

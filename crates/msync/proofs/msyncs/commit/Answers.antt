@@ -1,6 +1,6 @@
 use Rattle.msync.proofs.{Asking.{asks_listed}, Committing.{front_few, are_pages, room_next, room_left, are_spots, front_lists, changes, synced_shows, memory_synced, away_of, err_is}}
 use Rattle.msync.proofs.Committing.{device_failed, source_failed, store_same, commit_done, commit_failed, commit_unread}
-use Rattle.msync.proofs.{Committing.{StoreCommits}, Names.{◌≡◌, ◌≢◌, ◌⊎◌, inl, inr, length, take, refl, sym, ◌∙◌, subst, arith, rules, LeavesNow, AsksOnly, Store, StandsFor, IsReadyStore, IsUsedIn, slots_of, Source, committed, Stall}}
+use Rattle.msync.proofs.{Committing.{StoreCommits}, Names.{◌≡◌, ◌≢◌, ◌⊎◌, inl, inr, length, take, refl, sym, ◌∙◌, subst, arith, rules, LeavesNow, AsksOnly, Store, StandsForContents, IsReadyStore, IsUsedIn, slots_of, Source, committed, Stall}}
 use Rattle.msync.proofs.Names.{HasRoom, always_free_in, directory_of, disk_of, kept_of, free_of, holds_now}
 use Rattle.msync.{proofs.{Names.{SwapDevice, Stalled, picture_of, IsFit, ShowsPages}, SettledPages.{ready_shared, settles_nothing}}, specs.{Asking.{IsSectorListed}, Choice.{chosen_of, IsAway}, Settling.{Settles, SettlesMemory}}}
 use Rattle.{msync.specs.{Shows.{IsSoundCore}, Spots.{AreSpots, HasSlot}}, swap.specs.declared.pages.Pages.{Pages as Swap_pages}}
@@ -65,25 +65,25 @@ returns-in-Ok g c =
       commits = λ s after pid addr len mode shows takes same.
           let taken = committed s pid same.first same.count s.durable in
           let lists = front_lists s pid same.first same.count ch few same.lists in
-          let change = changes (picture_of old) s pid same.first same.count front list c.requires.sound.fit shows.pages spots lists s.durable in
+          let change = changes (picture_of old) s pid same.first same.count front list c.requires.sound.fit shows.pages spots lists s.durable shows.files in
           let n = g.D.SectorDisk.sector_count (disk_of old.store) in
           let M : Type 0 = IsAway (picture_of old) ch → g.E.SectorDisk.keeps_model new.swap.pages.disk in
           let model : M → HasSlot c.commit.new.source.spots.now → g.E.SectorDisk.keeps_model source.pages.disk =
           λ m has. subst (λ (p : Swap_pages g.row.E.Denot). g.E.SectorDisk.keeps_model p.disk) beside.pages (m (away (subst (λ l. HasSlot l) done.asks.follows.1 has))) in
-          let commits_to : StoreCommits g.D.SectorDisk M n s.files s.durable taken old.store c.commit.new.self = record {
+          let commits_to : StoreCommits g.D.SectorDisk M n s.durable taken old.store c.commit.new.self = record {
             directory = done.files;
             always = done.always;
             size = done.size;
             kept = done.kept;
-            either = λ k m now. done.any_moment k (model m) s.files s.durable taken now change;
+            either = λ k m now. done.any_moment k (model m) s.durable.files s.durable.pages taken.pages now change;
             most_moment = done.most_moment;
             most_now = λ k. holds_now g.D.SectorDisk (disk_of old.store) (disk_of c.commit.new.self) _ (λ t image le may. g.met.D.SectorDisk.counts_now _ t image k le may) (done.most_moment k);
           } in
-          let Q : Store g.row.D.Denot → Type 0 = λ x. g.D.SectorDisk.keeps_model (disk_of x) → M → LeavesNow g.D.SectorDisk (disk_of old.store) (StandsFor n s.files s.durable)
-          → LeavesNow g.D.SectorDisk (disk_of x) (StandsFor n s.files taken) in
+          let Q : Store g.row.D.Denot → Type 0 = λ x. g.D.SectorDisk.keeps_model (disk_of x) → M → LeavesNow g.D.SectorDisk (disk_of old.store) (StandsForContents n s.durable)
+          → LeavesNow g.D.SectorDisk (disk_of x) (StandsForContents n taken) in
           commit_done g.D.SectorDisk g.E.SectorDisk M old new s after pid addr len mode ch shows same takes
-          (subst (λ (x : Store g.row.D.Denot). StoreCommits g.D.SectorDisk M n s.files s.durable taken old.store x) (sym beside.store) commits_to)
-          (subst Q (sym beside.store) (λ k m now. done.ok k (model m) s.files s.durable taken now change))
+          (subst (λ (x : Store g.row.D.Denot). StoreCommits g.D.SectorDisk M n s.durable taken old.store x) (sym beside.store) commits_to)
+          (subst Q (sym beside.store) (λ k m now. done.ok k (model m) s.durable.files s.durable.pages taken.pages now change))
           (synced_shows (picture_of old) s pid same.first same.count front list c.requires.sound.fit shows.pages spots lists (picture_of new) settles) sound;
       ends = search rules;
       asks_store = subst (λ (x : Store g.row.D.Denot). AsksOnly g.D.SectorDisk (IsUsedIn (kept_of old.store)) (disk_of old.store) (disk_of x)) (sym beside.store) done.asks_device;
@@ -113,7 +113,7 @@ returns-in-Err-Device g c =
       commits = λ s after pid addr len mode shows takes same.
           let taken = committed s pid same.first same.count s.durable in
           let lists = front_lists s pid same.first same.count ch few same.lists in
-          let change = changes (picture_of old) s pid same.first same.count front list c.requires.sound.fit shows.pages spots lists s.durable in
+          let change = changes (picture_of old) s pid same.first same.count front list c.requires.sound.fit shows.pages spots lists s.durable shows.files in
           let M : Type 0 = IsAway (picture_of old) ch → g.E.SectorDisk.keeps_model source.pages.disk in
           let model : M → HasSlot c.commit.new.source.spots.now → g.E.SectorDisk.keeps_model source.pages.disk =
           λ m has. m (away (subst (λ l. HasSlot l) done.asks.follows.1 has)) in
@@ -123,7 +123,7 @@ returns-in-Err-Device g c =
             always = done.always;
             size = done.size;
             kept = done.kept;
-            either = λ k m now. done.any_moment k (model m) s.files s.durable taken now change;
+            either = λ k m now. done.any_moment k (model m) s.durable.files s.durable.pages taken.pages now change;
             most_moment = done.most_moment;
             most_now = λ k. holds_now g.D.SectorDisk (disk_of old.store) (disk_of c.commit.new.self) _ (λ t image le may. g.met.D.SectorDisk.counts_now _ t image k le may) (done.most_moment k);
           })
@@ -163,7 +163,7 @@ returns-in-Err-Source g c =
       commits = λ s after pid addr len mode shows takes same.
           let taken = committed s pid same.first same.count s.durable in
           let lists = front_lists s pid same.first same.count ch few same.lists in
-          let change = changes (picture_of old) s pid same.first same.count front list c.requires.sound.fit shows.pages spots lists s.durable in
+          let change = changes (picture_of old) s pid same.first same.count front list c.requires.sound.fit shows.pages spots lists s.durable shows.files in
           let M : Type 0 = IsAway (picture_of old) ch → g.E.SectorDisk.keeps_model source.pages.disk in
           let model : M → HasSlot c.commit.new.source.spots.now → g.E.SectorDisk.keeps_model source.pages.disk =
           λ m has. m (away (subst (λ l. HasSlot l) done.asks.follows.1 has)) in
@@ -173,14 +173,14 @@ returns-in-Err-Source g c =
             always = done.always;
             size = done.size;
             kept = done.kept;
-            either = λ k m now. done.any_moment k (model m) s.files s.durable taken now change;
+            either = λ k m now. done.any_moment k (model m) s.durable.files s.durable.pages taken.pages now change;
             most_moment = done.most_moment;
             most_now = λ k. holds_now g.D.SectorDisk (disk_of old.store) (disk_of c.commit.new.self) _ (λ t image le may. g.met.D.SectorDisk.counts_now _ t image k le may) (done.most_moment k);
           })
           (record { directory = done.files; slots = reads.slots; frames = refl; cache = refl; roots = refl; regions = refl; page_of = refl; clock = refl; refused = refl })
           (source_failed _ _ _ _ c.in-Err-Source.field-0 c.in-Err-Source.field-0-is done.causes)
           (store_same (λ x. ShowsPages x s) (picture_of old) (slots_of old.swap) (slots_of source) (directory_of old.store) (directory_of c.commit.new.self) reads.slots done.files shows.pages) sound
-          (λ k now. done.source_now k failed s.files s.durable now) (λ k now. done.source k failed s.files s.durable now);
+          (λ k now. done.source_now k failed s.durable.files s.durable.pages now) (λ k now. done.source k failed s.durable.files s.durable.pages now);
       ends = search rules;
       asks_store = done.asks_device;
       asks_slots = asks_listed g.E.SectorDisk (picture_of old) ch list old.swap.pages.disk source.pages.disk few spots reads.asks;

@@ -1,4 +1,4 @@
-use Rattle.std.proofs.Common.{◌<◌, ◌^◌, refl, arith}
+use Rattle.std.proofs.Common.{◌<◌, ◌≤◌, ◌^◌, refl, arith}
 use Rattle.pool_growth.proofs.Applied.{after_all, after_more, after_none, holds_between}
 use Rattle.pool_growth.proofs.committing.apply.Goals as goal
 
@@ -12,8 +12,8 @@ invariant_of-directory c =
     let changes = c.args.changes.now in
     let are = c.requires.1 in
     let here = c.loop-change.directory in record {
-      numbers = holds_between before changes are.changes (λ f e. f < 64) (λ f e is. (are.may.bounded f e is).0) c.loop-change.change-index here.entries.items c.loop-change-test.true c.loop-change.invariant.0 here.numbers;
-      lengths = holds_between before changes are.changes (λ f e. e.length < 2 ^ 32) (λ f e is. (are.may.bounded f e is).1) c.loop-change.change-index here.entries.items c.loop-change-test.true c.loop-change.invariant.0
+      numbers = holds_between before changes are.changes (λ f e. f < 4096) (λ f e is. (are.may.bounded f e is).0) c.loop-change.change-index here.entries.items c.loop-change-test.true c.loop-change.invariant.0 here.numbers;
+      lengths = holds_between before changes are.changes (λ f e. e.length ≤ 2 ^ 42) (λ f e is. (are.may.bounded f e is).1) c.loop-change.change-index here.entries.items c.loop-change-test.true c.loop-change.invariant.0
           here.lengths;
     }
 

@@ -1,6 +1,6 @@
 use Rattle.std.proofs.Common.{◌≡◌, ℕ, false, true, List, Ok, length, refl, ap, arith, rules}
 use Rattle.pool_growth.proofs.{Committed.{AreLate, are_late, at_fault, is_committed, late_few, late_gives, late_inside, late_long, late_rise, list_few, not_put, put_fits, put_low, room_stays, told_as}, Listed.{changed_few}}
-use Rattle.pool_growth.proofs.{New.{added_few}, Ordering.{are_placed_then, given_inside}}
+use Rattle.pool_growth.proofs.{New.{added_homes}, Ordering.{are_placed_then, given_inside}}
 use Rattle.pool_store.specs.Store.{IsDirectoryOn}
 use Rattle.pool_growth.proofs.committing.commit_changes.Goals as goal
 
@@ -52,9 +52,9 @@ list_files-requires g c =
 
 pub overflow_cast-late : goal.overflow_cast-late
 overflow_cast-late g c =
-    let few = added_few c.args.store.now.journal.sizes.homes c.args.store.now.directory c.args.asked.changes.now c.requires.changes in
+    let few = added_homes c.args.store.now.journal.sizes.homes c.args.store.now.directory c.args.asked.changes.now c.requires.changes in
     let low = put_low c.args.store.now c.args.asked.changes.now c.args.asked.pages.now c.put_count-put.result c.put_count-put.ensures in
-    omega (arith, few, low)
+    omega (arith, few, low, c.requires.ready.pool.homes)
 
 pub commit-requires-clause-given : goal.commit-requires-clause-given
 commit-requires-clause-given g c =

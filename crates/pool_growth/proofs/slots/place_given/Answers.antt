@@ -1,20 +1,20 @@
 use Rattle.std.proofs.Common.{◌≡◌, ◌≤◌, ◌+◌, ◌-◌, ◌++◌, ◌∷◌, [], ℕ, List, length, map, sym, ap, ◌∙◌, arith, rules}
 use Rattle.std.proofs.lemmas.List.{FromFn.{length-map-range_with_len, map-range_with_len_more}, Sorted.{IsNonDecreasingBy-from_sort_by_key}}
 use Rattle.std.specs.List.{range_with_len}
-use Rattle.pool_growth.proofs.{New.{added_few}, Ordering.{place_is}}
+use Rattle.pool_growth.proofs.{New.{added_homes}, Ordering.{place_is}}
 use Rattle.pool_growth.specs.Late.{given_place}
 use Rattle.pool_store.specs.declared.room.Place.{Place}
 use Rattle.pool_growth.proofs.slots.place_given.Goals as goal
 
 pub overflow_add-k-end : goal.overflow_add-k-end
 overflow_add-k-end c =
-    let added = added_few c.requires.changes.0 c.args.directory.now c.args.asked.changes.now c.requires.changes.2 in
-    omega (arith, added, c.requires.few, c.added_count.ensures)
+    let added = added_homes c.requires.changes.0 c.args.directory.now c.args.asked.changes.now c.requires.changes.2 in
+    omega (arith, added, c.requires.changes.1, c.requires.few, c.added_count.ensures)
 
 pub overflow_cast-k : goal.overflow_cast-k
 overflow_cast-k c =
-    let added = added_few c.requires.changes.0 c.args.directory.now c.args.asked.changes.now c.requires.changes.2 in
-    omega (arith, added, c.requires.few, c.added_count.ensures, c.loop-k-test.true)
+    let added = added_homes c.requires.changes.0 c.args.directory.now c.args.asked.changes.now c.requires.changes.2 in
+    omega (arith, added, c.requires.changes.1, c.requires.few, c.added_count.ensures, c.loop-k-test.true)
 
 pub push_reserved-requires : goal.push_reserved-requires
 push_reserved-requires c =

@@ -4,4 +4,4 @@ use Rattle.pool_store.proofs.reading.are_bounded.Given as goal
 
 -- the files before this one are bounded
 abbrev pub invariant-loop-file : goal.invariant-loop-file
-invariant-loop-file l = (f : ℕ) (e : Entry) → f < l.file → entry_in l.entries f ≡ Some e → (f < 64) × (e.length < 2 ^ 32) × (e.extent_count ≤ 30)
+invariant-loop-file l = (f : ℕ) (e : Entry) → f < l.file → entry_in l.entries f ≡ Some e → (f < 4096) × (e.length ≤ 2 ^ 42) × (e.extent_count ≤ 30)

@@ -1,7 +1,7 @@
 use Rattle.std.proofs.Common.{◌≡◌, ◌+◌, vec_len, vec_capacity}
-use Rattle.pool_store.specs.Reading.{AppendsPage}
+use Rattle.pool_store.proofs.Entries.{FillsPage}
 use Rattle.pool_store.proofs.reading.take_page.Given as goal
 
--- the entries before this one are appended
+-- the entries before this one are read to where they belong
 abbrev pub invariant-loop-place : goal.invariant-loop-place
-invariant-loop-place l = AppendsPage l.page l.place l.fn.entries.items l.entries.items × (vec_len l.entries ≡ vec_len l.fn.entries + l.place) × (vec_capacity l.entries ≡ vec_capacity l.fn.entries)
+invariant-loop-place l = FillsPage l.page l.place l.fn.entries.items l.entries.items × (vec_len l.entries ≡ vec_len l.fn.entries + 16) × (vec_capacity l.entries ≡ vec_capacity l.fn.entries)

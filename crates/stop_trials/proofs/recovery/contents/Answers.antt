@@ -35,6 +35,6 @@ loop-file-preserved g c =
 
 pub returns-clause-bytes : goal.returns-clause-bytes
 returns-clause-bytes g c = λ keeps.
-    let all : c.loop-file.file ≡ 64 = omega (arith, c.loop-file-test.false) in
+    let all : c.loop-file.file ≡ 4096 = omega (arith, c.loop-file-test.false) in
     c.loop-file.invariant.bytes keeps
     ∙ ap (joined (standing_bytes (g.D.SectorDisk.sector_count (disk_of c.args.store.now)) (g.D.SectorDisk.content (disk_of c.args.store.now)))) all

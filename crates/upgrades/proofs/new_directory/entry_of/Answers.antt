@@ -10,4 +10,4 @@ returns-clause-is c =
     let info = c.args.info in
     let pages : c.pages_of-count.result ≡ pages_of_length info.length = c.pages_of-count.ensures.count in
     let few : c.min.result ≡ min (pages_of_length info.length) 1 = omega (arith, c.min.ensures, pages) in
-    entry_same _ (entry_made first info) refl c.from.ensures (few ∙ counted first (pages_of_length info.length)) (c.extents_of.ensures ∙ ap (extents_room first) pages)
+    entry_same _ (entry_made first info) refl refl (few ∙ counted first (pages_of_length info.length)) (c.extents_of.ensures ∙ ap (extents_room first) pages)

@@ -6,10 +6,13 @@ use Rattle.file_store.specs.{Faults.{old_fault}, Format.{IsFrom, IsMarkSector}, 
 use Rattle.file_store.specs.declared.faults.UpgradeFault.{UpgradeFault, TheVariants.{OldLayout, OldJournal, NewDevice, NewSmall, Formatted}}
 use Rattle.pool_journal.specs.Pools.{pool_home_count}
 use Rattle.pool_store.{proofs.{Formats.{unmarked_from}, Stopped.{marked_made, nothing_made, unmarked_made}}, specs.{Format.{IsUnmarkedPoolSector}, Pools.{pool_mark}}}
-use Rattle.upgrades.proofs.{Ends.{Leaves, are_files, file_was, files_asked, head_asked, headed, lacks_head, lacks_mark, last_of, new_asked, old_asked, room_is_not_small, sector_of, unmarked_of, upgrade_refused, with_mark}, Whole.{AreFiles}}
+use Rattle.upgrades.proofs.{Ends.{Leaves, are_files, file_was, files_asked, head_asked, headed, lacks_head, lacks_mark, last_of, new_asked, old_asked, room_is_not_small, sector_of, unmarked_of, upgrade_refused, with_mark}, Old.{short_listed}, Whole.{AreFiles}}
 use Rattle.upgrades.specs.{Copying.{WritesKindLast}, Finding.{LooksAtKind}, NewPool.{HasRoomFor, IsInnerUpgrade, IsTooSmall, IsUnmarkedUpgrade, IsUpgradeIfHeaded, IsUpgradeIfMarked, IsUpgradeSector, files_in, pages_before}, Old.{file_info, standing_page, version_in}, Upgraded.{UpgradesToPool}}
 use Rattle.upgrades.proofs.upgrading.upgrade.{Given.{Over}, Goals.{After-write_mark}}
 use Rattle.upgrades.proofs.upgrading.upgrade.Goals as goal
+
+pub check_new-requires-clause-short : goal.check_new-requires-clause-short
+check_new-requires-clause-short g c = short_listed c.in_ok-store.store c.list_files-files.result c.list_files-files.ensures
 
 pub write_unmarked-requires : goal.write_unmarked-requires
 write_unmarked-requires g c =

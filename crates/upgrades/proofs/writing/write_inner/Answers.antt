@@ -1,9 +1,12 @@
 use Rattle.upgrades.proofs.Names.{◌≡◌, ℕ, ⊎_elim, inl, inr, refl, arith, on_ok_weaker, once_none, once_wider}
 use Rattle.file_store.proofs.{Copied.{copies_unwritten}, Making.{makes_of}}
 use Rattle.pool_store.{proofs.{Formats.{head_low}, Making.{has_pool, made_once}}, specs.Format.{IsHomeSector, IsInnerSector, new_pages}}
-use Rattle.upgrades.proofs.{Copies.{copies_later}, Old.{not_run}, Tables.{tables_move}}
+use Rattle.upgrades.proofs.{Copies.{copies_later}, Old.{not_run, short_listed}, Tables.{tables_move}}
 use Rattle.upgrades.specs.{NewPool.{IsTableSector, files_in, first_of, pages_before}, Old.{IsOldPage}}
 use Rattle.upgrades.proofs.writing.write_inner.Goals as goal
+
+pub write_tables-requires-clause-short : goal.write_tables-requires-clause-short
+write_tables-requires-clause-short g c = short_listed c.args.store.now c.args.files.now c.requires.files
 
 pub copy_files-requires : goal.copy_files-requires
 copy_files-requires g c = record {

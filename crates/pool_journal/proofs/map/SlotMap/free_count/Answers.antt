@@ -1,4 +1,4 @@
-use Rattle.std.proofs.Common.{◌+◌, ◌∙◌, true, false, length, ap, arith, sym}
+use Rattle.std.proofs.Common.{true, false, length, ap, arith}
 use Rattle.pool_journal.{proofs.{AllFree.{in_all}, Found.{body_free}}, specs.Maps.{entries_of}}
 use Rattle.pool_journal.proofs.map.SlotMap.free_count.Goals as goal
 

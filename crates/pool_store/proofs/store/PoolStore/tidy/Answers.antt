@@ -5,7 +5,7 @@ use Rattle.disk_model.{proofs.{Moments.{asks_wider, weaker}, Naming.{once_wider}
 use Rattle.sync_journal.specs.Layouts.{HomesStandAs}
 use Rattle.pool_journal.{proofs.Tidied.{tidied_used}, specs.{Maps.{entries_of}, Pools.{pool, IsPoolUsed}, Tidying.{IsTidied}, declared.pool.PoolJournal.{PoolJournal}}}
 use Rattle.file_store.proofs.Reading.{has_content}
-use Rattle.pool_store.{proofs.{Ready.{in_blocks_weaker, ready_tidied}, Standing.{stands_kept}}, specs.{Files.{StandsFor}, Pools.{files_in_pool}, declared.store.PoolStore.{PoolStore}}}
+use Rattle.pool_store.{proofs.{Ready.{in_blocks_weaker, ready_tidied}, Standing.{stands_kept}}, specs.{Files.{StandsFor}, Pools.{files_in_pool}}}
 use Rattle.pool_store.proofs.store.PoolStore.tidy.Goals as goal
 
 pub returns : goal.returns

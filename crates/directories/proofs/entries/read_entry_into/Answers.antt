@@ -2,7 +2,7 @@ use Rattle.std.proofs.Common.{◌≡◌, ◌+◌, ◌-◌, ◌*◌, ℕ, List, t
 use Rattle.directories.specs.Entries.{entry_bytes, SaysEntry}
 use Rattle.directories.specs.declared.entry.Entry.{Entry}
 use Rattle.directories.proofs.Said.{refused}
-use Rattle.directories.proofs.entries.read_entry.Goals as goal
+use Rattle.directories.proofs.entries.read_entry_into.Goals as goal
 
 pub returns-clause-none : goal.returns-clause-none
 returns-clause-none c =
