@@ -37,10 +37,10 @@ enum { FAMSYNC_WRITE = 1, FAMSYNC_SYNC = 2, FAMSYNC_LENT = 3, FAMSYNC_COPY = 4 }
 struct famsync_call { uint64_t kind, sector, from; };
 
 /* Page `page`, of 4,096 bytes, of file `file`. */
-struct famsync_page { uint8_t file; uint32_t page; };
+struct famsync_page { uint16_t file; uint32_t page; };
 struct famsync_bytes { const unsigned char *at; };
 /* What becomes of a file: where `is_there` is not 0 it has this length in bytes from then on, and else it goes. */
-struct famsync_size { uint32_t file, is_there, length; };
+struct famsync_size { uint32_t file, is_there; uint64_t length; };
 
 /* `image` is `sectors` sectors, what the file holds. `calls` and `rows` are room for the plan, `calls_room` calls and `rows_room` rows
    of 512 bytes, as `scratch_calls` and `scratch_rows` are room to work in. FAMSYNC_ROOM of each suffice for layout 2, and
@@ -81,8 +81,8 @@ void famsync_failed(struct famsync_handle *handle);
 /* Nothing is to be carried out after these. `to` is 4,096 bytes; the length is in bytes. */
 uint32_t famsync_read(const struct famsync_handle *handle, const void *image, size_t sectors,
                       struct famsync_call *scratch_calls, size_t scratch_calls_room, void *scratch_rows,
-                      size_t scratch_rows_room, uint8_t file, uint32_t page, unsigned char *to);
+                      size_t scratch_rows_room, uint16_t file, uint32_t page, unsigned char *to);
 uint32_t famsync_length(const struct famsync_handle *handle, const void *image, size_t sectors,
                         struct famsync_call *scratch_calls, size_t scratch_calls_room, void *scratch_rows,
-                        size_t scratch_rows_room, uint8_t file, uint32_t *to);
+                        size_t scratch_rows_room, uint16_t file, uint64_t *to);
 #endif

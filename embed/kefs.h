@@ -1,8 +1,8 @@
-/* kefs.h, version 1.2: failure-atomic msync on a program's own memory (Park, Kelly and Shen, "Failure-Atomic msync()",
-   EuroSys 2013), over the proved plans of libfamsync.a. An image is one host file that holds up to 64 files of under 2^32 bytes
+/* kefs.h, version 2.0: failure-atomic msync on a program's own memory (Park, Kelly and Shen, "Failure-Atomic msync()",
+   EuroSys 2013), over the proved plans of libfamsync.a. An image is one host file that holds up to 4,096 files of up to 2^42 bytes
    each (docs/FORMATS.md). A program maps some of them, stores to the memory, gives them other lengths, makes and removes some, and
-   commits what it has done. New images are of layout 4. Those of layout 2 are opened too, and their files have fixed lengths; one of layout 3 is KEFS_NOT_IMAGE, and
-   `kefscheck upgrade OLD NEW` makes one of layout 4 of it.
+   commits what it has done. New images are of layout 4. Those of layout 2 are opened too, and have up to 64 files of fixed lengths of under 2^32 bytes; one of
+   layout 3 is KEFS_NOT_IMAGE, and `kefscheck upgrade OLD NEW` makes one of layout 4 of it.
 
    After a commit has returned KEFS_OK each page and each length that it took is durable, in all files at once. After a crash or a
    power cut at any moment the files are as after some prefix of the commits, each of them whole, and no commit that
@@ -66,15 +66,15 @@
 extern "C" {
 #endif
 
-#define KEFS_VERSION_MAJOR 1
-#define KEFS_VERSION_MINOR 2
+#define KEFS_VERSION_MAJOR 2
+#define KEFS_VERSION_MINOR 0
 #define KEFS_VERSION_PATCH 0
 /* 1,000,000 * major + 1,000 * minor + patch. */
 #define KEFS_VERSION_NUMBER (KEFS_VERSION_MAJOR * 1000000 + KEFS_VERSION_MINOR * 1000 + KEFS_VERSION_PATCH)
 
 enum {
   KEFS_PAGE = 4096,       /* bytes of a page */
-  KEFS_FILES = 64,        /* files of an image at most, numbered from 0 on */
+  KEFS_FILES = 4096,      /* files of an image at most, numbered from 0 on; its directory may have places for fewer */
   KEFS_MOST_PAGES = 1023  /* pages of one commit at most, of layout 2; kefs_stat says how many of any image */
 };
 
@@ -92,7 +92,7 @@ enum kefs_result {
   KEFS_NO_TRACKER = -31010,  /* the system has not the tracker that the flags ask for */
   KEFS_FORKED = -31011,      /* the handle is of a parent process */
   KEFS_BAD_ARGUMENT = -31012, /* an image, a path, an out-pointer or a list is NULL that may not be; nothing was done */
-  KEFS_OTHER_FILES = -31013  /* KEFS_CREATE, and the image that is there has other files than those of the options */
+  KEFS_OTHER_FILES = -31013  /* KEFS_CREATE, and the image that is there has not the files of the options */
 };
 
 /* An open image. */
@@ -126,22 +126,23 @@ enum {
 
 /* A file of a new image. */
 struct kefs_file {
-  uint32_t length;     /* in bytes, 0 to 4,294,967,295; kefs_resize changes it */
+  uint64_t length;     /* in bytes, up to 2^42; kefs_resize changes it */
   uint32_t flags;      /* some of KEFS_FILE_READ_ONLY, KEFS_FILE_SPARSE and KEFS_FILE_GROWS, or 0 */
   const void *content; /* `length` bytes, or NULL: zeros */
 };
 
-/* Makes an image at `path`, where nothing may be, of `count` files, 0 to 64, that get the numbers from 0 on, with these
-   access permissions (as 0640, less the umask; 0 is 0600). It is durable when the call returns. It has 16,572,416 bytes beside its
-   files, most of them a pool of 4,032 slots, in which pages stay that were committed. Its room on the device is taken, where the
-   file system can do so, but where a file is sparse that of 40,960 bytes and of the other files: the rest follows as commits need
-   it. A stop at any moment, and a failure, leave the whole image at `path`, or nothing there, and once it is there it is not taken
-   away: another process may have it. (Where the file system has no unnamed files, a stop may leave a file `path`.new-PID-NUMBER,
+/* Makes an image at `path`, where nothing may be, of `count` files, 0 to 4,096, that get the numbers from 0 on, with these
+   access permissions (as 0640, less the umask; 0 is 0600). It is durable when the call returns. Its directory has places for 64 files, or for
+   `count`, rounded up to a multiple of 16, where that is more, and never gets others; kefs_options may say how many. It has 16,572,416 bytes
+   beside its files, and 4,096 more for each 16 places more: most of them are a pool of 4,032 slots, in which pages stay that were committed. Its
+   room on the device is taken, where the file system can do so, but where a file is sparse that of 24,576 bytes, the directory and the other files:
+   the rest follows as commits need it. A stop at any moment, and a failure, leave the whole image at `path`, or nothing there, and once it is there it
+   is not taken away: another process may have it. (Where the file system has no unnamed files, a stop may leave a file `path`.new-PID-NUMBER,
    which may be removed.)
-   EINVAL: over 64 files, or a flag that is none. EEXIST: something is at `path`. EFBIG: the files need over 2^30 - 4 pages,
-   or the file system, or the process (ulimit -f), has no files so large. ENOSPC, EDQUOT: there is no room. ENOMEM. KEFS_DEVICE: a
-   write or a sync failed; if that of the folder, the image is at `path`, and an opening with KEFS_CREATE tries that sync again. Other
-   errno values as of open(2) and linkat(2). */
+   EINVAL: over 4,096 files, or a flag that is none. EEXIST: something is at `path`. EFBIG: a file has over 2^42 bytes, or the files and the
+   directory, of a page for each 16 places, need over 2^30 pages; or the file system, or the process (ulimit -f), has no files so large. ENOSPC,
+   EDQUOT: there is no room. ENOMEM. KEFS_DEVICE: a write or a sync failed; if that of the folder, the image is at `path`, and an opening with
+   KEFS_CREATE tries that sync again. Other errno values as of open(2) and linkat(2). */
 int kefs_format(const char *path, unsigned permissions, const struct kefs_file *files, size_t count);
 
 /* Opening and closing */
@@ -196,21 +197,25 @@ struct kefs_options {
   size_t size;                  /* sizeof (struct kefs_options), so that a later version may have more fields; that of version 1.0 ends before `pool` */
   uint32_t wait;                /* milliseconds to wait for the lock at most, then KEFS_BUSY; 0: no limit. With KEFS_SNAPSHOT
                                    of each kefs_refresh too. With less than 1,000 a reader that is stopped is KEFS_BUSY */
-  uint32_t permissions;         /* with KEFS_CREATE these four, as of kefs_format: access permissions, */
+  uint32_t permissions;         /* with KEFS_CREATE these, as of kefs_format: access permissions, */
   const struct kefs_file *files; /* files */
   size_t count;                 /* how many they are; */
-  uint32_t pool;                /* and how many slots the pool of the image has, rounded up to a multiple of 1,008, 2,064,384 at most; 0:
+  uint32_t pool;                /* how many slots the pool of the image has, rounded up to a multiple of 1,008, 2,064,384 at most; 0:
                                    4,032. A slot takes 4,104 bytes. A commit after which over a half of them would have a page writes
                                    all other pages home: twice as many slots as a program has pages that it changes again and again
-                                   keep commits short */
+                                   keep commits short; */
+  uint32_t places;              /* and for how many files its directory has places, that of the names among them: 1 to 4,096, rounded up to a
+                                   multiple of 16, and `count` at least; 0: 64. Commits read all of them: one of a page takes 10 us with 64
+                                   places, and 90 with 4,096, or 150 with as many files, besides its syncs */
 };
 
 /* kefs_open with options. With KEFS_CREATE, where nothing is at `path`, the image is made first, as kefs_format does
-   it; an image that is there has to have these files, and no others, of these lengths, but for those with KEFS_FILE_GROWS. With KEFS_NAMES besides
+   it; an image that is there has to have these files, of these lengths, but for those with KEFS_FILE_GROWS. It may have more, of the numbers
+   from `count` on, which kefs_add_file made, and any number of places. With KEFS_NAMES besides
    `count` is 0; a new image has no file but that of the names, and one that is there has to have names, and may have any files.
    EINVAL: as of kefs_open and of kefs_format, KEFS_CREATE to read or without options, KEFS_NAMES without KEFS_CREATE or with files, a pool of over
-   2,064,384 pages, or a `size` that is less than that of version 1.0. KEFS_OTHER_FILES: the image that is there has other files, lengths, files that may only be read, or no names.
-   Other results as of kefs_open and, with KEFS_CREATE, of kefs_format. */
+   2,064,384 pages, over 4,096 places, or a `size` that is less than that of version 1.0. KEFS_OTHER_FILES: the image that is there lacks one of these
+   files, has another length of it or another right to write it, or has no names. Other results as of kefs_open and, with KEFS_CREATE, of kefs_format. */
 int kefs_open_with(kefs_image **image, const char *path, unsigned flags, const struct kefs_options *options);
 
 /* Unmaps all files and lets the image go; NULL does nothing. What was not committed or started is lost. The handle is gone
@@ -232,7 +237,7 @@ int kefs_map(kefs_image *image, unsigned file, void *wanted, void **at, size_t *
 /* kefs_map, with addresses that are kept for `most` bytes of the file: so far it may grow while it is mapped, and stays where it is. (kefs_map
    keeps those of the pages that the file has. Where it has more durably, since kefs_resize made it shorter, either call keeps those of all of
    these, which a roll back brings back.) They take no memory, and a touch where the file has no page is a SIGBUS, as past the end of any mapped
-   file. No file gets longer than 4,294,967,295 bytes, and for more no addresses are kept. Of an empty file *at is not NULL then, unless `most`
+   file. No file gets longer than 2^42 bytes, and for more no addresses are kept. Of an empty file *at is not NULL then, unless `most`
    is 0.
    EEXIST: as of kefs_map, or the file is mapped with addresses for fewer bytes. Other results as of kefs_map. */
 int kefs_map_growing(kefs_image *image, unsigned file, void *wanted, size_t most, void **at, size_t *length);
@@ -252,14 +257,15 @@ int kefs_length(kefs_image *image, unsigned file, size_t *length);
    behind the shorter length. An image that has no room for the file gets a longer host file, sparse, and keeps it.
 
    A commit that takes a length takes all *new* pages of the file, those behind the last one that is durable, whatever the ranges. They may be
-   any number: slots are not needed for them, and without these it takes a sync more. Of the other pages it takes the dirty ones of its ranges; and
-   the last one, where that is not full and the file gets longer, as it is durable if no range has it; and of a file that is not mapped
-   those that were cut off and are zeros now. kefs_count_dirty counts all of these. kefs_commit_start of a length makes it durable before it
+   any number: slots are not needed for them, and without these it takes a sync more. (Each is written, zeros too, and takes some 64 bytes of memory
+   while the commit lasts. So a file that is to be long and mostly zeros is better made as long, with KEFS_FILE_SPARSE.) Of the other pages it takes
+   the dirty ones of its ranges; and the last one, where that is not full and the file gets longer, as it is durable if no range has it; and of a
+   file that is not mapped those that were cut off and are zeros now. kefs_count_dirty counts all of these. kefs_commit_start of a length makes it durable before it
    returns, after all that was started, and may have any result of kefs_commit. kefs_rollback of all, or of such a range, takes the length back,
    and what was cut off is as the last commit has it. kefs_unmap and kefs_close lose a length that was not committed.
 
    KEFS_NO_FILE: no such file. KEFS_READ_ONLY: the image was opened to read, or the file may only be read. EOPNOTSUPP: the image is of layout 2.
-   EFBIG: over 4,294,967,295 bytes; over 2^30 pages of all files; a host file that is longer than its file system or the process (ulimit -f) may
+   EFBIG: over 2^42 bytes; over 2^30 pages of all files and the directory; a host file that is longer than its file system or the process (ulimit -f) may
    have; or the file lies in 30 parts, and gets no more. (It gets one more each time it doubles.) ENOMEM: the mapping keeps addresses for fewer
    bytes, or there is no memory. ENOSPC, EDQUOT, KEFS_DEVICE: the host file could not get longer, or a page not be read. Nothing was done then. */
 int kefs_resize(kefs_image *image, unsigned file, size_t length);
@@ -275,7 +281,7 @@ int kefs_resize(kefs_image *image, unsigned file, size_t length);
    a SIGBUS, and its number is not free, until kefs_unmap. The number of a file that was removed is free when a commit has taken that.
    kefs_commit_start of all, or of such a range, makes all of it durable before it returns, as of a length (kefs_resize).
 
-   kefs_add_file: EINVAL: a number over 63, or for which the image's directory has no place. EEXIST: the image has the file. EBUSY: the number is not
+   kefs_add_file: EINVAL: a number over 4,095, or for which the image's directory has no place. EEXIST: the image has the file. EBUSY: the number is not
    free yet. EFBIG, ENOSPC, EDQUOT, ENOMEM: as of kefs_resize. kefs_remove_file: KEFS_NO_FILE. EBUSY: it is mapped. EINVAL: it is that of the
    names. KEFS_READ_ONLY: it may only be read. Both: KEFS_READ_ONLY: the image was opened to read. EOPNOTSUPP: it is of layout 2. Nothing was done
    then. */
@@ -289,14 +295,14 @@ int kefs_remove_file(kefs_image *image, unsigned file);
    snapshot those of its commit. Where another program has damaged them, a name that has no end, or is of no file, or of a second one, is none,
    and the next commit that takes names writes it so.
 
-   All of them: EOPNOTSUPP: the image has no names. EINVAL: an empty name. ENAMETOOLONG: one of over 255 bytes. Those that change names:
+   All of them: EOPNOTSUPP: the image has no names. EINVAL: an empty name. ENAMETOOLONG: one of over 255 bytes. ENOMEM. Those that change names:
    KEFS_READ_ONLY: the image was opened to read. Nothing was done then. */
 
 /* The number of the file with this name. KEFS_NO_FILE: there is none. */
 int kefs_lookup(kefs_image *image, const char *name, unsigned *file);
 
-/* Makes a file of zeros with this name, as kefs_add_file does, of the least number that is free. EEXIST: a file has the name. ENFILE: none of the 63
-   numbers is free. EFBIG, ENOSPC, EDQUOT, ENOMEM: as of kefs_resize. */
+/* Makes a file of zeros with this name, as kefs_add_file does, of the least number that is free. EEXIST: a file has the name. ENFILE: no
+   number is free for which the image's directory has a place. EFBIG, ENOSPC, EDQUOT, ENOMEM: as of kefs_resize. */
 int kefs_create_file(kefs_image *image, const char *name, size_t length, unsigned *file);
 
 /* Gives a file another name, as rename(2) does: a file that has it is removed, as kefs_unlink does it. The file that gets it keeps its number, and may be
@@ -413,8 +419,8 @@ int kefs_touch(kefs_image *image, const void *at, size_t length);
    where a byte or a length of them may differ from before, else 0. No other thread may use the mapped memory meanwhile. After any
    result but KEFS_OK they are as they were. Where the writer has not committed since, it waits for nobody and copies nothing;
    after up to 16 commits it copies the pages of these, where each of them but the last was of at most 32 runs of neighbouring
-   pages, and all of at most 2,048 pages, the new ones of the last among them, which were of at most 32 runs too; and else it
-   compares all used pages.
+   pages, and all of at most 2,048 pages, the new ones of the last among them, which were of at most 32 runs too, as were the places of
+   files that came, went or got other lengths, 16 a page; and else it compares all used pages.
 
    A mapped file stays where it is. Pages that it has got are there as far as its mapping keeps addresses (kefs_map_growing;
    kefs_map keeps those of the pages that it had), and a touch of those that were cut off is a SIGBUS. kefs_length tells the whole

@@ -1,4 +1,4 @@
-"""Failure-atomic msync from Python, 3.8 or later: the calls of kefs.h (libkefs.so.1), whose comments say what each does and when it fails.
+"""Failure-atomic msync from Python, 3.8 or later: the calls of kefs.h (libkefs.so.2), whose comments say what each does and when it fails.
 
     import kefs
 
@@ -37,7 +37,7 @@ RDONLY, NOWAIT, TRACK_SCAN, TRACK_SIGNAL, TRACK_CALLER, LAZY, SNAPSHOT = 1, 2, 4
 PAGE, MOST_PAGES = 4096, 1023  # of one commit of layout 2; stat() says how many of any image
 BEFORE, AFTER = 0, 1
 _CREATE, _NAMES = 64, 256
-_FILES = 64
+_FILES, _LONGEST = 4096, 1 << 42  # files of an image, and bytes of one, at most
 
 
 class Error(Exception):
@@ -117,12 +117,12 @@ class File(NamedTuple):
 
 
 class _File(ctypes.Structure):
-    _fields_ = [("length", ctypes.c_uint32), ("flags", ctypes.c_uint32), ("content", ctypes.c_char_p)]
+    _fields_ = [("length", ctypes.c_uint64), ("flags", ctypes.c_uint32), ("content", ctypes.c_char_p)]
 
 
 class _Options(ctypes.Structure):
     _fields_ = [("size", ctypes.c_size_t), ("wait", ctypes.c_uint32), ("permissions", ctypes.c_uint32), ("files", ctypes.c_void_p), ("count", ctypes.c_size_t),
-                ("pool", ctypes.c_uint32)]
+                ("pool", ctypes.c_uint32), ("places", ctypes.c_uint32)]
 
 
 class _Range(ctypes.Structure):
@@ -174,8 +174,8 @@ def _library():
     """The C library, loaded when it is first needed."""
     global _loaded
     if _loaded is None:
-        beside = os.path.join(os.path.dirname(os.path.abspath(__file__)), "libkefs.so.1")
-        name = os.environ.get("KEFS_LIBRARY") or (beside if os.path.exists(beside) else "libkefs.so.1")
+        beside = os.path.join(os.path.dirname(os.path.abspath(__file__)), "libkefs.so.2")
+        name = os.environ.get("KEFS_LIBRARY") or (beside if os.path.exists(beside) else "libkefs.so.2")
         library = ctypes.CDLL(name)
         for call, arguments in _CALLS.items():
             getattr(library, call).argtypes = arguments
@@ -200,8 +200,8 @@ def _array(files):
     """The files of a new image as the library takes them. Each is a File, or a length in bytes."""
     specs = [file if isinstance(file, File) else File(file) for file in files]
     for spec in specs:
-        if not 0 <= spec.length < 1 << 32 or len(spec.content) > spec.length:
-            raise ValueError("a file has 0 to 4294967295 bytes, and no more content")
+        if not 0 <= spec.length <= _LONGEST or len(spec.content) > spec.length:
+            raise ValueError("a file has 0 to 2^42 bytes, and no more content")
     array = (_File * len(specs))()
     for entry, spec in zip(array, specs):
         content = bytes(spec.content).ljust(spec.length, b"\0") if spec.content else None
@@ -341,8 +341,8 @@ os.register_at_fork(after_in_child=_leave_parent)
 class Image:
     """An open image. It is closed by close(), or at the end of a `with`. Threads may share it: a call waits for the one before, but not for that of Started.wait()."""
 
-    def __init__(self, path, flags=0, wait=0, create=None, permissions=0o600, pool=0, names=False):
-        handle, options = ctypes.c_void_p(), _Options(size=ctypes.sizeof(_Options), wait=wait, permissions=permissions, pool=pool)
+    def __init__(self, path, flags=0, wait=0, create=None, permissions=0o600, pool=0, names=False, places=0):
+        handle, options = ctypes.c_void_p(), _Options(size=ctypes.sizeof(_Options), wait=wait, permissions=permissions, pool=pool, places=places)
         self._handle, self._mapped, self._lock, self._wait = None, {}, threading.RLock(), wait
         self._waits, self._idle = 0, threading.Condition(self._lock)  # threads that wait for commits, beside other calls
         self._resized = set()  # files that a roll back may give another length
@@ -464,7 +464,12 @@ class Image:
     def names(self):
         """The numbers of the files that have names, by their names."""
         with self._lock:
-            return {name: file for file in range(1, _FILES) if (name := self._name_at(file)) is not None}
+            found, files = {}, iter(range(1, _FILES))
+            most = self.stat()["files"] - 1  # file 0 is that of the names
+            while len(found) < most and (file := next(files, None)) is not None:
+                if (name := self._name_at(file)) is not None:
+                    found[name] = file
+            return found
 
     def _name_at(self, file):
         name = ctypes.c_char_p()
@@ -657,9 +662,10 @@ def _ranges(views):
     return (array, len(views)) if views else (None, 0)
 
 
-def open(path, flags=0, wait=0, create=None, permissions=0o600, pool=0, names=False):
+def open(path, flags=0, wait=0, create=None, permissions=0o600, pool=0, names=False, places=0):
     """Opens an image: kefs.RDONLY or kefs.SNAPSHOT, kefs.NOWAIT, kefs.LAZY and a tracker are the flags. Another opening of it is waited for, at most
     `wait` milliseconds where that is not 0; with SNAPSHOT only the commit that is under way, and by each refresh() too. `create` is the files of the
-    image, as of format(), that is made where nothing is at the path, and `pool` how many slots its pool has, 4,032 where it is 0. With `names` one is made
-    whose files have names, and that has no file yet. Use it in a `with`."""
-    return Image(path, flags, wait, create, permissions, pool, names)
+    image, as of format(), that is made where nothing is at the path, `pool` how many slots its pool has, 4,032 where it is 0, and `places` how many files
+    its directory has places for, up to 4,096, 64 where it is 0. With `names` one is made whose files have names, and that has no file yet. Use it in
+    a `with`."""
+    return Image(path, flags, wait, create, permissions, pool, names, places)

@@ -1,7 +1,7 @@
 /* The memory of mapped files, and the addresses that are kept behind it.
 
    Where a file may get pages, and where it had some that were cut off, an empty file is mapped. So nothing else gets these addresses, and a touch is a
-   SIGBUS, as past the last page of any mapped file. Memory is put over it as the file grows. */
+   SIGBUS, as past the last page of any mapped file. Memory is put over it as the file grows. An image lists its mappings in the order of their addresses. */
 #define _GNU_SOURCE
 #include "internal.h"
 #include <errno.h>
@@ -51,6 +51,37 @@ int put_memory(const struct span *span) {
   if (span->mapping->image->lazy && munlock(at, bytes) != 0) return errno;
   if (mprotect(at, bytes, PROT_READ | PROT_WRITE) != 0) return errno;
   return madvise(at, bytes, MADV_DONTFORK) == 0 ? KEFS_OK : errno;
+}
+
+/* Order */
+
+size_t first_mapped(const struct kefs_image *image, uintptr_t address) {
+  size_t low = 0, high = image->mapped_count;
+  while (low < high) {
+    size_t middle = low + (high - low) / 2;
+    const struct mapping *mapping = &image->mappings[image->in_order[middle]];
+    if ((uintptr_t)mapping->at + mapping->kept * PAGE <= address) low = middle + 1;
+    else high = middle;
+  }
+  return low;
+}
+
+void note_order(struct mapping *mapping) {
+  struct kefs_image *image = mapping->image;
+  size_t i = first_mapped(image, (uintptr_t)mapping->at);
+  memmove(image->in_order + i + 1, image->in_order + i, (image->mapped_count - i) * sizeof *image->in_order);
+  image->in_order[i] = (uint16_t)file_number(mapping);
+  image->mapped_count++;
+  add_number(&image->mapped, file_number(mapping));
+}
+
+void forget_order(struct mapping *mapping) {
+  struct kefs_image *image = mapping->image;
+  if (!has_number(&image->mapped, file_number(mapping))) return;
+  size_t i = first_mapped(image, (uintptr_t)mapping->at);
+  image->mapped_count--;
+  memmove(image->in_order + i, image->in_order + i + 1, (image->mapped_count - i) * sizeof *image->in_order);
+  drop_number(&image->mapped, file_number(mapping));
 }
 
 /* Pages */

@@ -96,10 +96,11 @@ static int copy_late(struct backup *backup, int round) {
 
 /* Of an image of layout 4 the directory is among its pages. */
 static int write_older_directory(const struct backup *backup) {
-  struct file files[KEFS_FILES];
+  struct file files[OLDER_FILES];
+  if (backup->shift == 0) return KEFS_OK;
   memcpy(files, backup->image->files, sizeof files);
-  for (unsigned f = 0; f < KEFS_FILES; f++) files[f].extents[0].first += backup->shift;
-  return backup->shift == 0 ? KEFS_OK : write_directory(backup->file.fd, &backup->layout, files);
+  for (unsigned f = 0; f < OLDER_FILES; f++) files[f].extents[0].first += backup->shift;
+  return write_directory(backup->file.fd, &backup->layout, files, OLDER_FILES);
 }
 
 static off_t length_of_copy(const struct backup *backup) { return home_offset(&backup->layout, 0) + (off_t)(PAGE * backup->homes); }

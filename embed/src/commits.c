@@ -4,12 +4,8 @@
 #include <string.h>
 
 /* The pages of the mapped files that belong to some ranges, or all pages where `ranges` is NULL: one range of one file after the
-   other. Pages that are new, since a file got longer, are none of them (sizes.c). */
-struct spans { struct kefs_image *image; const struct kefs_range *ranges; size_t count, range; unsigned file; };
-
-static struct spans spans_of(struct kefs_image *image, const struct kefs_range *ranges, size_t count) {
-  return (struct spans){image, ranges, count, 0, 0};
-}
+   other, in the order of addresses, and of all pages in that of files. Pages that are new, since a file got longer, are none of them (sizes.c). */
+struct spans { struct kefs_image *image; const struct kefs_range *ranges; size_t count, range, next; };
 
 /* Those of the first pages of a mapped file that have a byte of a range: none where `first` is `end`. */
 static struct span span_within(struct mapping *mapping, size_t pages, const struct kefs_range *range) {
@@ -34,16 +30,35 @@ static struct span span_of(struct mapping *mapping, const struct kefs_range *ran
   return span_within(mapping, mapping->pages < durable ? mapping->pages : durable, range);
 }
 
+/* Of a range the files from the first on that may have a byte of it. */
+static void begin_range(struct spans *it) {
+  if (it->range < it->count && it->ranges != NULL) it->next = first_mapped(it->image, (uintptr_t)it->ranges[it->range].at);
+}
+
+static struct spans spans_of(struct kefs_image *image, const struct kefs_range *ranges, size_t count) {
+  struct spans it = {image, ranges, count, 0, 0};
+  return begin_range(&it), it;
+}
+
+/* The next mapped file that may have a page of them, or NULL. */
+static struct mapping *next_mapping(struct spans *it) {
+  struct kefs_image *image = it->image;
+  for (; it->ranges != NULL && it->range < it->count; it->range++, begin_range(it)) {
+    const struct kefs_range *range = &it->ranges[it->range];
+    struct mapping *mapping = it->next < image->mapped_count ? &image->mappings[image->in_order[it->next++]] : NULL;
+    if (mapping != NULL && ((uintptr_t)mapping->at <= (uintptr_t)range->at || (uintptr_t)mapping->at - (uintptr_t)range->at < range->length)) return mapping;
+  }
+  unsigned f = it->ranges == NULL ? next_number(&image->mapped, (unsigned)it->next) : KEFS_FILES;
+  it->next = f + 1;
+  return f < KEFS_FILES ? &image->mappings[f] : NULL;
+}
+
 static int next_span(struct spans *it, struct span *span) {
   static const struct kefs_range everything = {NULL, SIZE_MAX};
-  size_t ranges = it->ranges == NULL ? 1 : it->count;
-  for (; it->range < ranges; it->range++, it->file = 0) {
-    while (it->file < KEFS_FILES) {
-      struct mapping *mapping = &it->image->mappings[it->file++];
-      if (mapping->at == NULL || mapping->file.read_only) continue;
-      *span = span_of(mapping, it->ranges == NULL ? &everything : &it->ranges[it->range]);
-      if (span->first < span->end) return 1;
-    }
+  for (struct mapping *mapping = next_mapping(it); mapping != NULL; mapping = next_mapping(it)) {
+    if (mapping->file.read_only) continue;
+    *span = span_of(mapping, it->ranges == NULL ? &everything : &it->ranges[it->range]);
+    if (span->first < span->end) return 1;
   }
   return 0;
 }
@@ -114,7 +129,7 @@ static size_t most_taken(const struct kefs_image *image) { return image->places.
 int put_taken(struct kefs_image *image, unsigned f, size_t k) {
   struct taken *taken = &image->taken;
   if (taken->count == most_taken(image)) return 0;
-  taken->pages[taken->count++] = (struct famsync_page){(uint8_t)f, (uint32_t)k};
+  taken->pages[taken->count++] = (struct famsync_page){(uint16_t)f, (uint32_t)k};
   return 1;
 }
 
@@ -228,26 +243,43 @@ static int result_of(uint32_t answer) {
   }
 }
 
-/* Pages in rising order are planned faster. They are so, but where ranges came in another one. */
+/* Pages in rising order are planned faster. They are so, but where ranges came in another one: then there are some runs of them, which are merged. */
 
-static struct famsync_page page_of(uint32_t order) { return (struct famsync_page){(uint8_t)(order >> 20), order & 0xfffff}; }
-
-static int are_in_order(const struct taken *taken) {
-  for (size_t i = 1; i < taken->count; i++)
-    if (order_of(&taken->pages[i - 1]) > order_of(&taken->pages[i])) return 0;
-  return 1;
+/* Where the run of rising pages ends that begins with page `i`. */
+static size_t run_from(const struct famsync_page *pages, size_t count, size_t i) {
+  for (i++; i < count && order_of(&pages[i - 1]) <= order_of(&pages[i]);) i++;
+  return i < count ? i : count;
 }
 
-/* The image's places are read anew after the commit, so that their room may serve. */
+static int are_in_order(const struct taken *taken) { return run_from(taken->pages, taken->count, 0) == taken->count; }
+
+/* Puts the pages up to `middle`, and those from there up to `end`, into one order. */
+static void merge(const struct famsync_page *from, size_t first, size_t middle, size_t end, struct famsync_page *to) {
+  for (size_t i = first, j = middle; i < middle || j < end;) {
+    int takes_first = j == end || (i < middle && order_of(&from[i]) <= order_of(&from[j]));
+    *to++ = takes_first ? from[i++] : from[j++];
+  }
+}
+
+/* Each two runs that follow each other, as one: how many there were. */
+static size_t merge_runs(const struct famsync_page *from, size_t count, struct famsync_page *to) {
+  size_t runs = 0;
+  for (size_t first = 0, middle, end; first < count; first = end, runs++) {
+    middle = run_from(from, count, first);
+    end = middle < count ? run_from(from, count, middle) : middle;
+    merge(from, first, middle, end, to + first);
+  }
+  return runs;
+}
+
+/* The room in which the image's places are sorted serves: a place takes as much as a page. */
 static void put_in_order(struct kefs_image *image) {
-  struct places *places = &image->places;
   struct taken *taken = &image->taken;
-  for (size_t i = 0; i < taken->count; i++) places->list[i].home = order_of(&taken->pages[i]);
-  places->count = taken->count;
-  sort_places(places);
-  for (size_t i = 0; i < taken->count; i++) taken->pages[i] = page_of(places->list[i].home);
-  forget_places(image);
+  struct famsync_page *other = (void *)image->places.spare;
+  while (merge_runs(taken->pages, taken->count, other) > 1) memcpy(taken->pages, other, taken->count * sizeof *other);
+  memcpy(taken->pages, other, taken->count * sizeof *other);
 }
+_Static_assert(sizeof(struct place) == sizeof(struct famsync_page), "the room of places serves for pages");
 
 static void find_bytes(struct kefs_image *image) {
   struct taken *taken = &image->taken;

@@ -4,28 +4,35 @@
 #include <errno.h>
 
 int is_there(const struct kefs_image *image, unsigned f) {
-  const struct size *size = &image->sizes[f];
-  return size->is_new || (image->files[f].present && !size->is_gone);
+  return has_number(&image->changed, f) ? !image->sizes[f].is_gone : has_number(&image->present, f);
 }
 
-int comes_or_goes(const struct kefs_image *image, unsigned f) { return image->sizes[f].is_new || image->sizes[f].is_gone; }
+int is_new(const struct kefs_image *image, unsigned f) { return has_number(&image->changed, f) && image->sizes[f].is_new; }
+
+int comes_or_goes(const struct kefs_image *image, unsigned f) {
+  return has_number(&image->changed, f) && (image->sizes[f].is_new || image->sizes[f].is_gone);
+}
 
 uint32_t count_files(const struct kefs_image *image) {
-  uint32_t count = 0;
-  for (unsigned f = 0; f < KEFS_FILES; f++) count += (uint32_t)is_there(image, f);
+  uint32_t count = count_numbers(&image->present);
+  for (unsigned f = first_number(&image->changed); f < KEFS_FILES; f = next_number(&image->changed, f + 1))
+    count += (uint32_t)image->sizes[f].is_new - (uint32_t)image->sizes[f].is_gone;
   return count;
 }
 
 int means_files(struct kefs_image *image, const struct kefs_range *ranges, size_t count) {
   if (ranges == NULL) return 1;
-  for (unsigned f = 0; f < KEFS_FILES; f++)
+  for (unsigned f = first_number(&image->changed); f < KEFS_FILES; f = next_number(&image->changed, f + 1))
     if (image->sizes[f].is_new && has_byte_of(&image->mappings[f], ranges, count)) return 1;
   return 0;
 }
 
+/* Of a new file's size. */
+static struct size size_of_new(uint64_t length) { return (struct size){.is_new = 1, .length = length, .made = length}; }
+
 void lose_size(struct kefs_image *image, unsigned f) {
-  uint32_t made = image->sizes[f].made;
-  if (image->sizes[f].is_new) image->sizes[f] = (struct size){.is_set = 1, .is_new = 1, .length = made, .made = made};
+  struct size made = is_new(image, f) ? size_of_new(image->sizes[f].made) : (struct size){0};
+  if (made.is_new) put_size(image, f, &made);
   else forget_size(image, f);
 }
 
@@ -37,16 +44,17 @@ int check_files_change(const struct kefs_image *image, const char *call) {
 /* Coming */
 
 int check_new(struct kefs_image *image, unsigned f, size_t length) {
-  if (f >= KEFS_FILES || f >= entries_of(&image->layout)) return fail(image, EINVAL, "file %u", f);
+  if (f >= image->entries) return fail(image, EINVAL, "file %u, where the directory has places for %u", f, image->entries);
   if (is_there(image, f)) return fail(image, EEXIST, "file %u", f);
-  if (image->files[f].present) return fail(image, EBUSY, "file %u was removed, and no commit has taken that yet", f);
+  if (has_number(&image->present, f)) return fail(image, EBUSY, "file %u was removed, and no commit has taken that yet", f);
   if (image->mappings[f].at != NULL) return fail(image, EBUSY, "file %u, which was rolled back, is mapped still", f);
-  return length > UINT32_MAX ? fail(image, EFBIG, "%zu bytes", length) : KEFS_OK;
+  return length > LONGEST_FILE ? fail(image, EFBIG, "%zu bytes", length) : KEFS_OK;
 }
 
-int make_new(struct kefs_image *image, unsigned f, uint32_t length) {
-  image->sizes[f] = (struct size){.is_set = 1, .is_new = 1, .length = length, .made = length};
-  int result = length > 0 ? make_homes(image) : KEFS_OK;
+int make_new(struct kefs_image *image, unsigned f, uint64_t length) {
+  struct size size = size_of_new(length);
+  put_size(image, f, &size);
+  int result = length > 0 ? make_homes(image, f) : KEFS_OK;
   if (result != KEFS_OK) forget_size(image, f);
   return result;
 }
@@ -56,7 +64,7 @@ int kefs_add_file(kefs_image *image, unsigned file, size_t length) {
   if (result != KEFS_OK) return result;
   result = check_files_change(image, "kefs_add_file");
   if (result == KEFS_OK) result = check_new(image, file, length);
-  if (result == KEFS_OK) result = make_new(image, file, (uint32_t)length);
+  if (result == KEFS_OK) result = make_new(image, file, length);
   return leave(image, result);
 }
 
@@ -71,8 +79,9 @@ int check_going(struct kefs_image *image, unsigned f) {
 }
 
 void let_file_go(struct kefs_image *image, unsigned f) {
-  int is_durable = image->files[f].present;
-  image->sizes[f] = (struct size){.is_set = is_durable, .is_gone = is_durable};
+  struct size gone = {.is_gone = 1};
+  if (has_number(&image->present, f)) put_size(image, f, &gone);
+  else forget_size(image, f);
   clear_name(image, f);
 }
 

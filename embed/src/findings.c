@@ -1,5 +1,6 @@
 /* What is wrong with an image that no opening takes, in words: for kefs_errmsg and kefscheck. */
 #include "internal.h"
+#include <errno.h>
 #include <stdio.h>
 #include <string.h>
 
@@ -18,29 +19,62 @@ static struct finding check_file(const struct kefs_image *image, unsigned f, con
   return homes < pages_of(file->length) ? found(KEFS_NOT_IMAGE, "file %lu has more pages than homes", f, 0) : found(KEFS_OK, "", 0, 0);
 }
 
-static int share_home(const struct extent *one, const struct extent *other) {
-  uint64_t end = (uint64_t)one->first + one->count, other_end = (uint64_t)other->first + other->count;
-  return one->count > 0 && other->count > 0 && one->first < other_end && other->first < end;
+/* An extent of a file, and where it ends. In places it has a home, its first, and a number: that of the file and of the extent among those of the file. */
+static uint64_t end_of(const struct file *files, uint32_t number) {
+  const struct extent *extent = &files[number / EXTENTS].extents[number % EXTENTS];
+  return (uint64_t)extent->first + extent->count;
 }
 
-static int files_share(const struct file *one, const struct file *other) {
-  for (unsigned i = 0; i < one->extent_count && one->present; i++)
-    for (unsigned j = 0; j < other->extent_count && other->present; j++)
-      if ((one != other || i != j) && share_home(&one->extents[i], &other->extents[j])) return 1;
-  return 0;
+static void list_extents(const struct file *files, unsigned count, struct places *extents) {
+  for (unsigned f = 0; f < count; f++)
+    for (unsigned i = 0; i < files[f].extent_count && files[f].present; i++)
+      if (files[f].extents[i].count > 0) extents->list[extents->count++] = (struct place){files[f].extents[i].first, f * EXTENTS + i};
 }
 
-static struct finding check_entry(struct kefs_image *image, unsigned f, struct file *files) {
-  struct file file;
+/* Of extents in the order of their homes each may begin where those before it end, and not sooner. */
+static struct finding find_shared(const struct file *files, const struct places *extents) {
+  uint32_t last = 0; /* the one that ends last of those before */
+  for (size_t i = 0; i < extents->count; i++) {
+    const struct place *extent = &extents->spare[i];
+    unsigned f = extent->sector / EXTENTS, before = last / EXTENTS;
+    if (i > 0 && extent->home < end_of(files, last)) return found(KEFS_NOT_IMAGE, "files %lu and %lu share a page", before < f ? before : f, before < f ? f : before);
+    if (i == 0 || end_of(files, extent->sector) > end_of(files, last)) last = extent->sector;
+  }
+  return found(KEFS_OK, "", 0, 0);
+}
+
+static struct finding check_shared(const struct file *files, unsigned count) {
+  struct places extents = {.room = (size_t)EXTENTS * count};
+  size_t bytes = extents.room * sizeof *extents.list;
+  struct finding finding = found(ENOMEM, "memory for its extents", 0, 0);
+  extents.list = new_memory(bytes), extents.spare = new_memory(bytes);
+  if (extents.list != NULL && extents.spare != NULL) {
+    list_extents(files, count, &extents);
+    order_places(&extents);
+    finding = find_shared(files, &extents);
+  }
+  drop_memory(extents.list, bytes), drop_memory(extents.spare, bytes);
+  return finding;
+}
+
+static struct finding check_entry(struct kefs_image *image, unsigned f, struct file *file) {
   const char *why;
-  int result = read_entry(image, f, &file, &why);
+  int result = read_entry(image, f, file, &why);
   if (result != KEFS_OK) return found(result, why, f, 0);
-  if (f >= KEFS_FILES) return file.present ? found(KEFS_NOT_IMAGE, "file %lu has a number over 63", f, 0) : found(KEFS_OK, "", 0, 0);
-  files[f] = file;
-  if (!file.present) return found(KEFS_OK, "", 0, 0);
-  struct finding finding = check_file(image, f, &file);
-  for (unsigned g = 0; g <= f && finding.result == KEFS_OK; g++)
-    if (files_share(&files[g], &files[f])) return found(KEFS_NOT_IMAGE, "files %lu and %lu share a page", g, f);
+  return file->present ? check_file(image, f, file) : found(KEFS_OK, "", 0, 0);
+}
+
+static struct finding check_entries(struct kefs_image *image, struct file *files, unsigned count) {
+  struct finding finding = found(KEFS_OK, "", 0, 0);
+  for (unsigned f = 0; f < count && finding.result == KEFS_OK; f++) finding = check_entry(image, f, &files[f]);
+  return finding.result == KEFS_OK ? check_shared(files, count) : finding;
+}
+
+static struct finding check_directory(struct kefs_image *image) {
+  unsigned count = entries_of(&image->layout);
+  struct file *files = new_memory(count * sizeof *files);
+  struct finding finding = files == NULL ? found(ENOMEM, "memory for its files", 0, 0) : check_entries(image, files, count);
+  drop_memory(files, count * sizeof *files);
   return finding;
 }
 
@@ -72,16 +106,12 @@ static struct finding check_mark(const struct kefs_image *image) {
 }
 
 struct finding check_store(struct kefs_image *image) {
-  struct file files[KEFS_FILES];
   struct finding finding = check_mark(image);
   if (finding.result != KEFS_OK) return finding;
   if (image->sectors < least_sectors(&image->layout))
     return found(KEFS_NOT_IMAGE, "it has %lu sectors, under %lu", image->sectors, least_sectors(&image->layout));
-  for (unsigned f = 0; f < entries_of(&image->layout); f++) {
-    finding = check_entry(image, f, files);
-    if (finding.result != KEFS_OK) return finding;
-  }
-  return check_journal(image);
+  finding = check_directory(image);
+  return finding.result == KEFS_OK ? check_journal(image) : finding;
 }
 
 const char OF_LAYOUT_3[] = "it has layout 3; 'kefscheck upgrade OLD NEW' makes one of layout 4 of it";

@@ -6,6 +6,7 @@
 #include "kefs.h"
 #pragma GCC visibility pop
 #include "famsync.h"
+#include "numbers.h"
 #include <pthread.h>
 #include <signal.h>
 #include <stdint.h>
@@ -26,6 +27,9 @@ struct places {
 enum outcome { NO_FAILURE, IN_DOUBT, IS_BEFORE, IS_AFTER };
 
 enum { KIND_SECTOR = 1, MAP_SECTORS = 8, MOST_HOMES = 1 << 30, JOURNAL_PAGES = 1023 };
+/* Of layout 4 a file's most bytes, and a directory's most pages; and how many files layout 2 has. */
+#define LONGEST_FILE ((uint64_t)1 << 42)
+enum { MOST_DIRECTORY = 256, OLDER_FILES = 64 };
 
 /* Where an image has its parts, by their first sectors. Behind a journal's map is its body; a pool has two maps, each of some blocks of 8 sectors and with a body
    behind it. `number` is 0 where nothing is known yet. */
@@ -49,7 +53,7 @@ enum { DIRTY = 1, TAKEN = 2, AREA = 512 };
 struct extent { uint32_t first, count; };
 /* An entry of the image's directory. The homes of its extents are those of its pages, in their order. */
 enum { EXTENTS = 30, PAGE_ENTRIES = 16 }; /* of a file, and entries of a page of the directory */
-struct file { int present, read_only; uint32_t length, extent_count; struct extent extents[EXTENTS]; };
+struct file { int present, read_only; uint64_t length; uint32_t extent_count; struct extent extents[EXTENTS]; };
 
 /* A mapped file. Its first `pages` pages are memory; of the others for which addresses are kept a touch is a SIGBUS. Signal handlers may read `pages` and
    `late` while kefs_resize changes them. */
@@ -59,7 +63,7 @@ struct mapping {
   size_t pages, kept; /* that it has now, and for how many there are addresses */
   size_t late;        /* pages in front that are read when they are first touched. All others were read, or began as zeros */
   unsigned char *marks; /* one a page, changed by atomic operations alone; */
-  unsigned char *areas; /* and one of each AREA pages: 0 where the mark of none of them is DIRTY */
+  unsigned char *areas; /* and behind them one of each AREA pages: 0 where the mark of none of them is DIRTY */
   uint32_t *slots; /* of a pool's page that is read when it is touched: the first sector of the slot that it had when the file was mapped, or 0; NULL: no page has one */
   int has_unread;  /* some of these may not be read yet */
   struct file file; /* as it was durable when it was mapped. A page that is late has the home that it had then, for as long as the file has the page */
@@ -81,13 +85,21 @@ struct turns {
 
 /* What kefs_resize has made of a file, and no commit has made durable yet (sizes.c): its length; and how many of its durable bytes are left. Of a mapped file
    these are all: its pages tell what became of them. A file that is new is not durable, and one that is gone still is (files.c); `made` is the length that a new
-   one was made with. */
-struct size { int is_set, is_new, is_gone; uint32_t length, left, made; };
+   one was made with. For its length a file lacks so many homes, and gets an extent of as many as it wants where it can; a row of homes lends them (growing.c). */
+struct size { int is_new, is_gone; uint32_t lacks, wants, row; uint64_t length, left, made; };
 
-/* The names of files (names.c): file 0 of an image that has them. Record f is the name of file f, zeros where it has none, and record 0 says that these are names. */
-enum { NAME = 256, NAMES_PAGES = KEFS_FILES * NAME / PAGE };
-struct names { char records[KEFS_FILES][NAME]; };
-struct named { struct names now, durable; };
+/* Homes that no file has, in rows, by their order; the last row goes up to MOST_HOMES (growing.c). */
+struct homes { struct extent *rows; size_t count, room; int is_listed; };
+
+/* The names of files (names.c): file 0 of an image that has them. Record f is the name of file f, zeros where it has none, and record 0 says that these are names.
+   Names are found by chains of files whose names have the same remainder, from `first` over `next`. */
+enum { NAME = 256 };
+struct names {
+  size_t count; /* of records */
+  char (*records)[NAME], (*durable)[NAME]; /* as they are now, and as they are durable in pages of them that have changed */
+  struct numbers changed; /* these pages */
+  uint16_t *first, *next;
+};
 
 /* Memory that the calls of libfamsync.a cut their blocks from (heap.c): `used` bytes are, the last block from `last` on. */
 struct heap { unsigned char *at; size_t length, used, last; };
@@ -97,11 +109,12 @@ struct taken { struct famsync_page *pages; struct famsync_bytes *bytes; size_t c
 
 /* What a commit makes of the lengths of files (sizes.c): nothing, where `count` is 0. */
 struct resizing {
-  struct famsync_size sizes[KEFS_FILES];
+  struct famsync_size *sizes;     /* room for one of each file */
   size_t count, added, directory; /* sizes; new pages of their files; and pages of the directory that change */
-  unsigned names;                 /* a bit for each page of the names that goes with it */
+  int has_names;                  /* the pages of the names that have changed go with it */
   struct taken lent;              /* the pages that are taken, and the bytes of the new ones with those of these behind them */
-  unsigned char *edges;           /* a page for each file, of its edge */
+  unsigned char *edges;           /* room for pages of edges, */
+  size_t edge_room, edge_count;   /* for so many, and so many are used */
   size_t room;                    /* how many new pages there is room for, in these bytes and in plans. Other commits find it there */
 };
 
@@ -160,10 +173,16 @@ struct kefs_image {
   struct famsync_handle handle;
   struct plan scratch, plan;
   struct heap heap;
-  struct file files[KEFS_FILES]; /* as they are durable */
-  struct size sizes[KEFS_FILES];
-  struct named *named; /* of an image that has names and is open to write, or NULL */
-  struct mapping mappings[KEFS_FILES];
+  unsigned entries; /* how many files the directory has places for: of each file */
+  struct file *files; /* as they are durable; `present` are there */
+  struct size *sizes; /* for those that `changed` has */
+  struct mapping *mappings;
+  uint16_t *in_order; /* the `mapped_count` files that are mapped, in the order of their addresses */
+  struct numbers present, changed, mapped;
+  size_t mapped_count;
+  uint64_t lacks, wants; /* sums of those of all sizes */
+  struct homes homes;
+  struct names *names; /* of an image that has names; of one that was opened to read since they were asked for. Or NULL */
   struct taken taken; /* what a commit takes of the mapped files */
   struct resizing resizing;
   struct taken *planned; /* what the plan is of: these, or those that are lent with lengths, the started pages that are running, */
@@ -182,12 +201,19 @@ struct kefs_image {
 
 /* A number that this process has, and no child that inherits its handles: KEFS_OK or ENOMEM. */
 int this_generation(uint64_t *generation);
+/* Whether a number is not that of this process; and whether an image is of a parent process. */
+int is_of_parent(uint64_t generation);
 int is_forked(const struct kefs_image *image);
+void lock_process(void);
+void unlock_process(void);
 /* Notes that this thread has the image open by this handle, or no longer. */
 void add_owner(struct kefs_image *image);
 void remove_owner(struct kefs_image *image);
 /* Whether this thread has this file open by a handle that keeps others out: to wait for that would never end. */
 int is_own(int fd);
+
+/* regions.c: which addresses of the process are mapped files. */
+
 /* Makes a mapping, with all its addresses, known to mapping_at: KEFS_OK or ENOMEM. */
 int add_region(struct mapping *mapping);
 void remove_region(struct mapping *mapping);
@@ -223,7 +249,7 @@ static inline uint32_t number_at(const unsigned char *at) {
 }
 
 /* Of a file of so many bytes. */
-static inline uint64_t pages_of(uint32_t length) { return ((uint64_t)length + PAGE - 1) / PAGE; }
+static inline uint64_t pages_of(uint64_t length) { return (length + PAGE - 1) / PAGE; }
 
 static inline size_t home_sector(const struct layout *layout, uint32_t home) { return layout->homes + (size_t)PAGE / SECTOR * home; }
 static inline off_t home_offset(const struct layout *layout, uint32_t home) { return (off_t)(SECTOR * home_sector(layout, home)); }
@@ -239,16 +265,19 @@ static inline size_t least_sectors(const struct layout *layout) { return home_se
 size_t places_of(const struct layout *layout);
 /* How many home pages the host file has. */
 uint64_t home_pages(const struct kefs_image *image);
-/* Entry `f` of the directory: KEFS_OK, or KEFS_NOT_IMAGE where it is none, and the reason. Of layout 4 it may be over the last that a file may have. */
+/* Entry `f` of the directory: KEFS_OK, or KEFS_NOT_IMAGE where it is none, and the reason. */
 int read_entry(struct kefs_image *image, unsigned f, struct file *to, const char **why);
 /* How many entries the directory has. */
 unsigned entries_of(const struct layout *layout);
 void read_directory(struct kefs_image *image);
+/* Of an image of layout 4 the entries of these files alone, which a commit has changed. */
+void read_entries(struct kefs_image *image, const struct famsync_size *sizes, size_t count);
+/* Room for what is known of each file: KEFS_OK or ENOMEM. */
+int make_tables(struct kefs_image *image);
+void drop_tables(struct kefs_image *image);
 /* The home of page `k` of a file, and how many of its pages from that one on have their homes one after the other; none where it has no more homes. */
 size_t homes_from(const struct file *file, size_t k, uint32_t *home);
 uint32_t home_of_page(const struct file *file, size_t k);
-/* The page of a file of so many pages that has this home, or `pages`. */
-size_t page_of_home(const struct file *file, size_t pages, uint32_t home);
 /* Whether a sector that is the journal's gate has it open. */
 int is_open_gate(const unsigned char *sector);
 int has_open_gate(const struct kefs_image *image);
@@ -277,6 +306,8 @@ void drop_places(struct places *places);
 void list_places(const struct layout *layout, uint64_t homes, const unsigned char *map, uint32_t first, struct places *places);
 /* Puts places into the order of their homes, each of these once: those of one home stay in their order, and the first of them counts. */
 void sort_places(struct places *places);
+/* Puts places into the order of their homes, and those of one home leaves in theirs. They are in the spare room then. */
+void order_places(struct places *places);
 /* Of sorted places the number of the first whose home is `home` or a later one, or how many they are. */
 size_t first_place(const struct places *places, uint32_t home);
 /* The image's own, as its gate and maps are now. */
@@ -295,16 +326,17 @@ void forget_places(struct kefs_image *image);
 
 /* format.c: new images. They are of layout 4. */
 
-/* A new image's layout, and whether its pool takes room from the first or as commits need it. */
-enum { DIRECTORY_PAGES = 4, POOL_BLOCKS = 4 };
+/* Of a new image, where nothing else is asked. */
+enum { DIRECTORY_PAGES = OLDER_FILES / PAGE_ENTRIES, POOL_BLOCKS = 4 };
 /* Where a new image takes room from the first: up to its homes and directory, or where its pool takes its own later up to the map that its gate names. */
 int take_first_room(int fd, const struct layout *layout, int has_pool);
-/* Writes the directory of these files, one extent each in the order of their numbers, where the layout has it. KEFS_OK or an errno value. */
-int write_directory(int fd, const struct layout *layout, const struct file *files);
+/* Writes the directory of these files, so many in the order of their numbers, of one extent each, where the layout has it. KEFS_OK or an errno value. */
+int write_directory(int fd, const struct layout *layout, const struct file *files, size_t count);
 /* What comes last: a sync of all that was written, kind and mark, each with a sync of its own. KEFS_OK or an errno value. */
 int finish_image(int fd, const struct layout *layout);
-/* kefs_format with a pool of so many pages, 0 for the usual. */
-int format_with_pool(const char *path, unsigned permissions, const struct kefs_file *files, size_t count, uint32_t pool);
+/* Makes an image as options say: kefs_format with some more. And how many files its directory has places for. */
+int format_as(const char *path, const struct kefs_options *options);
+unsigned places_asked(const struct kefs_options *options);
 
 /* findings.c */
 
@@ -457,7 +489,7 @@ int fill_slotted(struct kefs_image *image);
 
 /* commits.c */
 
-static inline uint32_t order_of(const struct famsync_page *page) { return (uint32_t)page->file << 20 | page->page; }
+static inline uint64_t order_of(const struct famsync_page *page) { return (uint64_t)page->file << 32 | page->page; }
 int check_ranges(struct kefs_image *image, const struct kefs_range *ranges, size_t count);
 /* Whether a range has a byte of the addresses that are kept for a file, where it is mapped. */
 int has_byte_of(struct mapping *mapping, const struct kefs_range *ranges, size_t count);
@@ -493,8 +525,10 @@ void end_commit(struct kefs_image *image, int done);
 /* sizes.c: what files are to be. */
 
 /* The length of a file as kefs_resize has left it, in bytes, and how many of its durable bytes it has still, of a file that is not mapped. */
-uint32_t length_of(const struct kefs_image *image, unsigned f);
-uint32_t left_of(const struct kefs_image *image, unsigned f);
+uint64_t length_of(const struct kefs_image *image, unsigned f);
+uint64_t left_of(const struct kefs_image *image, unsigned f);
+/* Has a file be what this says, which is another than the durable one. */
+void put_size(struct kefs_image *image, unsigned f, const struct size *size);
 /* Gives a file the length again that is durable. */
 void forget_size(struct kefs_image *image, unsigned f);
 /* Brings a new mapping, of the pages that are left of what is durable, to the length that the file has: KEFS_OK or an errno value. */
@@ -525,8 +559,9 @@ int roll_back_sizes(struct kefs_image *image, const struct kefs_range *ranges, s
 
 /* files.c: files that come and go. */
 
-/* Whether a file is there now; and whether it was not, or not to be, at the last commit. */
+/* Whether a file is there now; whether it is there, and no commit has taken that; and whether it was not, or not to be, at the last commit. */
 int is_there(const struct kefs_image *image, unsigned f);
+int is_new(const struct kefs_image *image, unsigned f);
 int comes_or_goes(const struct kefs_image *image, unsigned f);
 uint32_t count_files(const struct kefs_image *image);
 /* Whether a call of these ranges is of the files that come and go, and of the names. They all go together. */
@@ -535,7 +570,7 @@ int means_files(struct kefs_image *image, const struct kefs_range *ranges, size_
 void lose_size(struct kefs_image *image, unsigned f);
 /* Why no file of this number and length can be made now, or KEFS_OK; and makes it: KEFS_OK or the image's result. */
 int check_new(struct kefs_image *image, unsigned f, size_t length);
-int make_new(struct kefs_image *image, unsigned f, uint32_t length);
+int make_new(struct kefs_image *image, unsigned f, uint64_t length);
 /* Why a file can't go now, or KEFS_OK; and has it go. */
 int check_going(struct kefs_image *image, unsigned f);
 void let_file_go(struct kefs_image *image, unsigned f);
@@ -544,20 +579,23 @@ int check_files_change(const struct kefs_image *image, const char *call);
 
 /* names.c: names of files. */
 
-/* Makes an image with names, and no other file than these, as format_with_pool does. */
-int format_with_names(const char *path, unsigned permissions, uint32_t pool);
-/* Takes the names of an image that is open to write into memory, where it has them: KEFS_OK or ENOMEM. */
+/* Makes an image with names, and no other file than these, as format_as does. */
+int format_with_names(const char *path, const struct kefs_options *options);
+/* Takes the names of an image into memory, where it has them: KEFS_OK or ENOMEM. */
 int begin_names(struct kefs_image *image);
 void end_names(struct kefs_image *image);
-/* Whether this is the file of an image's names. */
+/* Whether this is the file of the names of an image that is open to write. */
 int is_names_file(const struct kefs_image *image, unsigned f);
-/* A bit for each page of them that has other bytes than it has durably. */
-unsigned pending_names(const struct kefs_image *image);
+/* The name of a file, or NULL. */
+const char *name_of(const struct kefs_image *image, unsigned f);
+/* The first page of them from `k` on that has other bytes than it has durably, or KEFS_FILES; and how many have. */
+size_t next_changed_name_page(const struct kefs_image *image, size_t k);
+size_t count_changed_name_pages(const struct kefs_image *image);
 /* Page `k` of them. */
 const unsigned char *names_page(const struct kefs_image *image, size_t k);
-/* Makes what is durable of them, or notes that these pages are durable now. */
+/* Makes what is durable of them, or notes that all that have changed are durable now. */
 void roll_back_names(struct kefs_image *image);
-void settle_names(struct kefs_image *image, unsigned pages);
+void settle_names(struct kefs_image *image);
 /* Takes the name of a file away. */
 void clear_name(struct kefs_image *image, unsigned f);
 
@@ -577,13 +615,23 @@ int lengthen_mapping(struct mapping *mapping, size_t pages);
 int restore_mapping(struct mapping *mapping, size_t pages);
 /* or fewer. */
 int shorten_mapping(struct mapping *mapping, size_t pages);
+/* Lists a mapping among those of its image in the order of addresses, or no longer; and the place there of the first that ends behind an address. */
+void note_order(struct mapping *mapping);
+void forget_order(struct mapping *mapping);
+size_t first_mapped(const struct kefs_image *image, uintptr_t address);
 
 /* growing.c: homes for files that grow. */
 
-/* Sees to it that there are homes for the files as they are to be, in a longer host file where they are too few: KEFS_OK, or the image's result. */
-int make_homes(struct kefs_image *image);
+/* How many homes a file lacks for a length, beside those that it has durably; and how many an extent should have that brings them. */
+void find_lacks(const struct kefs_image *image, unsigned f, struct size *size);
+/* Sees to it that there are homes for the files as they are to be, of which file `f` has got longer, in a longer host file where they are too few: KEFS_OK, or
+   the image's result. */
+int make_homes(struct kefs_image *image, unsigned f);
 /* Makes the host file longer, so that each file finds the homes that it lacks in a row: KEFS_OK, or the image's result. */
 int lengthen_image(struct kefs_image *image);
+/* A commit has made `after` of what a file was durably. */
+void change_homes(struct kefs_image *image, const struct file *before, const struct file *after);
+void drop_homes(struct kefs_image *image);
 void drop_former(struct kefs_image *image);
 
 /* tidy.c */

@@ -50,13 +50,13 @@ void drop_memory(const void *at, size_t length) {
 /* Closing */
 
 static void drop_marks(struct mapping *mapping) {
-  drop_memory(mapping->marks, mapping->kept);
-  drop_memory(mapping->areas, areas_of(mapping));
+  drop_memory(mapping->marks, mapping->kept + areas_of(mapping));
   drop_memory(mapping->slots, mapping->kept * sizeof *mapping->slots);
 }
 
 /* A handler of signals finds the region by its addresses, which another mapping may have once the memory is gone. */
 static void drop_mapping(struct mapping *mapping) {
+  forget_order(mapping);
   remove_region(mapping);
   drop_memory(mapping->at, mapping->kept * PAGE);
   drop_marks(mapping);
@@ -67,8 +67,7 @@ static void drop_mapping(struct mapping *mapping) {
 static void forget_mapping(struct mapping *mapping) { drop_marks(mapping); }
 
 static void drop_mappings(struct kefs_image *image, int forked) {
-  for (int f = 0; f < KEFS_FILES; f++) {
-    if (image->mappings[f].at == NULL) continue;
+  for (unsigned f = first_number(&image->mapped); f < KEFS_FILES; f = next_number(&image->mapped, f + 1)) {
     if (forked) forget_mapping(&image->mappings[f]);
     else drop_mapping(&image->mappings[f]);
   }
@@ -87,6 +86,8 @@ static int close_image(struct kefs_image *image) {
   drop_sizes(image);
   end_names(image);
   drop_rooms(image);
+  drop_homes(image);
+  drop_tables(image);
   drop_memory(image->roomless, room_bytes(image->sectors));
   if (image->nothing >= 0) close(image->nothing);
   if (image->fd >= 0 && !forked) end_turns(image), flock(image->fd, LOCK_UN); /* a child that still has the descriptor would hold the locks */
@@ -111,10 +112,12 @@ int file_of(struct kefs_image *image, unsigned file) {
   return file < KEFS_FILES && is_there(image, file) ? KEFS_OK : fail(image, KEFS_NO_FILE, "file %u", file);
 }
 
+/* Those of a small file are one page of memory. */
 static int make_marks(struct mapping *mapping) {
-  mapping->marks = new_memory(mapping->kept);
-  mapping->areas = new_memory(areas_of(mapping));
-  return mapping->marks == NULL || mapping->areas == NULL ? ENOMEM : KEFS_OK;
+  mapping->marks = new_memory(mapping->kept + areas_of(mapping));
+  if (mapping->marks == NULL) return ENOMEM;
+  mapping->areas = mapping->marks + mapping->kept;
+  return KEFS_OK;
 }
 
 static int fill_mapping(struct mapping *mapping) {
@@ -134,14 +137,14 @@ static int new_mapping(struct kefs_image *image, unsigned file, void *wanted, si
   if (result == KEFS_OK) result = fill_mapping(mapping);
   if (result == KEFS_OK) result = fit_new_mapping(mapping);
   if (result == KEFS_OK) result = add_region(mapping);
-  if (result == KEFS_OK) return settle_size(image, file), KEFS_OK;
+  if (result == KEFS_OK) return note_order(mapping), settle_size(image, file), KEFS_OK;
   drop_mapping(mapping);
   return fail(image, result == EIO ? KEFS_DEVICE : result, "mapping file %u: %s", file, kefs_strerror(result));
 }
 
-/* For how many pages a mapping of a file keeps addresses, where it is to keep them for so many bytes: no file gets longer than four bytes say. */
+/* For how many pages a mapping of a file keeps addresses, where it is to keep them for so many bytes. */
 static size_t kept_for(const struct kefs_image *image, unsigned file, size_t most) {
-  size_t pages = (size_t)pages_of(length_of(image, file)), more = (size_t)pages_of(most < UINT32_MAX ? (uint32_t)most : UINT32_MAX);
+  size_t pages = (size_t)pages_of(length_of(image, file)), more = (size_t)pages_of(most < LONGEST_FILE ? most : LONGEST_FILE);
   size_t durable = durable_pages(image, file), least = pages > more ? pages : more;
   return least > 0 && least < durable ? durable : least;
 }
@@ -174,7 +177,7 @@ int kefs_map(kefs_image *image, unsigned file, void *wanted, void **at, size_t *
 int kefs_unmap(kefs_image *image, unsigned file) {
   int result = enter(image);
   if (result != KEFS_OK) return result;
-  if (file >= KEFS_FILES || image->mappings[file].at == NULL) return leave(image, fail(image, KEFS_NO_FILE, "file %u", file));
+  if (file >= KEFS_FILES || !has_number(&image->mapped, file)) return leave(image, fail(image, KEFS_NO_FILE, "file %u", file));
   drop_mapping(&image->mappings[file]);
   lose_size(image, file);
   return leave(image, KEFS_OK);

@@ -1,11 +1,12 @@
 /* What docs/FORMATS.md says of an image: its layout, its directory, its gate, its home pages. */
 #include "internal.h"
+#include <errno.h>
 #include <string.h>
 
 /* Layout 2 has one journal, layout 3, of which pages are read alone, two in turn, and layout 4 a pool. */
 static const struct layout LAYOUT_2 = {2, "FAMSYNC2", 1, 2, {0, 3}, 8195, 0, 0}, LAYOUT_3 = {3, "FAMSYNC3", 9, 16, {24, 8216}, 16408, 0, 0};
 
-enum { BLOCK_SLOTS = 504, MOST_BLOCKS = 2048, MOST_DIRECTORY = 256, BLOCK_SECTORS = 8, POOL_GATE = 8, POOL_FRONT = 16, ENTRY = 256 };
+enum { BLOCK_SLOTS = 504, MOST_BLOCKS = 2048, BLOCK_SECTORS = 8, POOL_GATE = 8, POOL_FRONT = 16, ENTRY = 256 };
 
 /* Of a block of a map: its sectors, and those of the slots that it names in one body. */
 static const uint32_t STRIDE = BLOCK_SECTORS * (1 + BLOCK_SLOTS);
@@ -69,16 +70,16 @@ static int decode_older(const unsigned char *entry, struct file *to, const char 
 
 static int decode(const unsigned char *entry, struct file *to, const char **why) {
   uint32_t flags = number_at(entry);
-  *to = (struct file){flags != 0, flags == 3, number_at(entry + 8), number_at(entry + 4), {{0}}};
+  *to = (struct file){flags != 0, flags == 3, number_at(entry + 8) | (uint64_t)number_at(entry + 12) << 32, number_at(entry + 4), {{0}}};
   if (flags == 0 && !is_zero(entry, ENTRY)) return *why = NOT_ZERO, KEFS_NOT_IMAGE;
   if (flags > 3 || flags == 2) return *why = "entry %lu of the directory has flags that no file has", KEFS_NOT_IMAGE;
   if (to->extent_count > EXTENTS) return *why = "entry %lu of the directory has over 30 extents", KEFS_NOT_IMAGE;
-  if (number_at(entry + 12) != 0) return *why = "file %lu has a length of over four bytes", KEFS_NOT_IMAGE;
+  if (to->length > LONGEST_FILE) return *why = "file %lu has over 2^42 bytes", KEFS_NOT_IMAGE;
   for (unsigned i = 0; i < to->extent_count; i++) to->extents[i] = (struct extent){number_at(entry + 16 + 8 * i), number_at(entry + 20 + 8 * i)};
   return KEFS_OK;
 }
 
-unsigned entries_of(const struct layout *layout) { return layout->blocks == 0 ? KEFS_FILES : PAGE_ENTRIES * layout->directory_pages; }
+unsigned entries_of(const struct layout *layout) { return layout->blocks == 0 ? OLDER_FILES : PAGE_ENTRIES * layout->directory_pages; }
 
 /* What stands for a home page, from its first sector on. */
 static void copy_standing(struct kefs_image *image, size_t sector, unsigned char *to) {
@@ -94,37 +95,85 @@ int read_entry(struct kefs_image *image, unsigned f, struct file *to, const char
   return decode(page + ENTRY * (f % PAGE_ENTRIES), to, why);
 }
 
+static void set_file(struct kefs_image *image, unsigned f, const struct file *file) {
+  image->files[f] = *file;
+  put_number_in(&image->present, f, file->present);
+}
+
 /* Of layout 2 all entries lie in one sector. */
 static void read_older_entries(struct kefs_image *image) {
   const unsigned char *entries = sector_at(image, image->layout.directory);
+  struct file file;
   const char *why;
-  for (unsigned f = 0; f < KEFS_FILES; f++) decode_older(entries + 8 * f, &image->files[f], &why);
+  for (unsigned f = 0; f < OLDER_FILES; f++) decode_older(entries + 8 * f, &file, &why), set_file(image, f, &file);
 }
 
-/* The entries of a page of the directory, of which the first is that of file `f`. */
+/* The entries of a page of the directory, of which the first is that of file `f`. What has no file and had none is left as it is. */
 static void read_page_entries(struct kefs_image *image, unsigned f, size_t sector) {
   unsigned char page[PAGE];
   const char *why;
   copy_standing(image, sector, page);
-  for (unsigned i = 0; i < PAGE_ENTRIES; i++) decode(page + ENTRY * i, &image->files[f + i], &why);
+  for (unsigned i = 0; i < PAGE_ENTRIES; i++) {
+    struct file file;
+    decode(page + ENTRY * i, &file, &why);
+    if (file.present || has_number(&image->present, f + i)) set_file(image, f + i, &file);
+  }
 }
 
-/* A file that the directory has no entry for is not there. */
 static void read_pool_entries(struct kefs_image *image) {
-  enum { MOST = KEFS_FILES / PAGE_ENTRIES };
-  size_t sectors[MOST];
-  uint32_t pages = image->layout.directory_pages < MOST ? image->layout.directory_pages : MOST;
+  size_t sectors[MOST_DIRECTORY];
+  uint32_t pages = image->layout.directory_pages;
   first_sectors(image, pages, sectors);
   for (uint32_t i = 0; i < pages; i++) read_page_entries(image, PAGE_ENTRIES * i, sectors[i]);
-  memset(image->files + PAGE_ENTRIES * pages, 0, (KEFS_FILES - PAGE_ENTRIES * pages) * sizeof *image->files);
 }
 
 void read_directory(struct kefs_image *image) {
   if (image->layout.blocks == 0) read_older_entries(image);
   else read_pool_entries(image);
-  image->stat.files = 0;
-  for (unsigned f = 0; f < KEFS_FILES; f++) image->stat.files += (uint32_t)image->files[f].present;
+  image->homes.is_listed = 0;
 }
+
+/* Each page is read once, since sizes rise by file. */
+void read_entries(struct kefs_image *image, const struct famsync_size *sizes, size_t count) {
+  size_t sectors[MOST_DIRECTORY];
+  unsigned char page[PAGE];
+  uint32_t read = MOST_DIRECTORY;
+  first_sectors(image, image->layout.directory_pages, sectors);
+  for (size_t i = 0; i < count; i++) {
+    unsigned f = sizes[i].file;
+    struct file file;
+    const char *why;
+    if (f / PAGE_ENTRIES != read) read = f / PAGE_ENTRIES, copy_standing(image, sectors[read], page);
+    decode(page + ENTRY * (f % PAGE_ENTRIES), &file, &why);
+    change_homes(image, &image->files[f], &file);
+    set_file(image, f, &file);
+  }
+}
+
+/* Tables of what is known of each file, one behind the other in one piece of memory. */
+
+static size_t bytes_of_tables(size_t count) {
+  return count * (sizeof(struct mapping) + sizeof(struct file) + sizeof(struct size) + sizeof(struct famsync_size) + sizeof(uint16_t));
+}
+
+int make_tables(struct kefs_image *image) {
+  size_t count = image->entries = entries_of(&image->layout);
+  image->mappings = new_memory(bytes_of_tables(count));
+  if (image->mappings == NULL) return ENOMEM;
+  image->files = (void *)(image->mappings + count);
+  image->sizes = (void *)(image->files + count);
+  image->resizing.sizes = (void *)(image->sizes + count);
+  image->in_order = (void *)(image->resizing.sizes + count);
+  return KEFS_OK;
+}
+
+void drop_tables(struct kefs_image *image) {
+  drop_memory(image->mappings, bytes_of_tables(image->entries));
+  image->mappings = NULL, image->files = NULL, image->sizes = NULL, image->resizing.sizes = NULL, image->in_order = NULL;
+  image->present = image->changed = image->mapped = (struct numbers){0};
+}
+
+/* Homes of pages */
 
 size_t homes_from(const struct file *file, size_t k, uint32_t *home) {
   for (const struct extent *it = file->extents; it < file->extents + file->extent_count; k -= it++->count)
@@ -136,13 +185,6 @@ uint32_t home_of_page(const struct file *file, size_t k) {
   uint32_t home = 0;
   homes_from(file, k, &home);
   return home;
-}
-
-size_t page_of_home(const struct file *file, size_t pages, uint32_t home) {
-  size_t before = 0;
-  for (const struct extent *it = file->extents; it < file->extents + file->extent_count; before += it++->count)
-    if (home >= it->first && home - it->first < it->count) return before + (home - it->first) < pages ? before + (home - it->first) : pages;
-  return pages;
 }
 
 /* Gate and map */

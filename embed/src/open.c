@@ -95,8 +95,7 @@ static int open_or_make(struct kefs_image *image, const struct opening *opening)
     int result = open_host_file(image, opening->path);
     if (result == KEFS_NOT_IMAGE) return fail(image, result, "%s: it is no regular file", opening->path);
     if (result != ENOENT || (opening->flags & KEFS_CREATE) == 0) return result == KEFS_OK ? KEFS_OK : fail(image, result, "opening %s", opening->path);
-    if ((opening->flags & KEFS_NAMES) != 0) result = format_with_names(opening->path, options->permissions, options->pool);
-    else result = format_with_pool(opening->path, options->permissions, options->files, options->count, options->pool);
+    result = ((opening->flags & KEFS_NAMES) != 0 ? format_with_names : format_as)(opening->path, options);
     if (result == EEXIST && access(opening->path, F_OK) != 0) return fail(image, errno, "opening %s", opening->path); /* a link to nothing */
     if (result != KEFS_OK && result != EEXIST) return fail(image, result, "%s", kefs_errmsg(NULL));
   }
@@ -320,11 +319,12 @@ void drop_taken(struct taken *taken, size_t room) {
 int make_rooms(struct kefs_image *image) {
   const struct layout *layout = &image->layout;
   size_t room = room_of(layout);
-  drop_rooms(image);
+  drop_rooms(image), drop_tables(image);
+  int has_tables = make_tables(image) == KEFS_OK;
   int has_plans = new_plan(&image->scratch, room) && new_plan(&image->plan, room) && new_heap(&image->heap, layout);
   int has_places = new_places(layout, &image->places) == KEFS_OK;
   int has_taken = new_taken(&image->taken, image->places.room) == KEFS_OK;
-  return has_plans && has_places && has_taken ? KEFS_OK : fail(image, ENOMEM, "room for plans");
+  return has_tables && has_plans && has_places && has_taken ? KEFS_OK : fail(image, ENOMEM, "room for plans");
 }
 
 void drop_rooms(struct kefs_image *image) {
@@ -409,17 +409,17 @@ static int lock_and_read(struct kefs_image *image, const struct opening *opening
   return result;
 }
 
-/* A program whose struct has grown would read past the file that an earlier one made. */
+/* A program whose struct has grown would read past the file that an earlier one made. Files of other numbers may be those that it has added. */
 static int check_created(const struct kefs_image *image, const struct opening *opening) {
   const struct kefs_options *options = &opening->options;
-  if ((opening->flags & KEFS_NAMES) != 0) return image->named != NULL ? KEFS_OK : fail(image, KEFS_OTHER_FILES, "the files of %s have no names", opening->path);
-  for (unsigned f = 0; f < KEFS_FILES && (opening->flags & KEFS_CREATE) != 0; f++) {
+  if ((opening->flags & KEFS_NAMES) != 0) return image->names != NULL ? KEFS_OK : fail(image, KEFS_OTHER_FILES, "the files of %s have no names", opening->path);
+  for (unsigned f = 0; f < options->count && (opening->flags & KEFS_CREATE) != 0; f++) {
+    const struct kefs_file *wanted = &options->files[f];
+    if (f >= KEFS_FILES || !has_number(&image->present, f)) return fail(image, KEFS_OTHER_FILES, "%s has no file %u", opening->path, f);
     const struct file *file = &image->files[f];
-    const struct kefs_file *wanted = f < options->count ? &options->files[f] : NULL;
-    if (file->present != (wanted != NULL)) return fail(image, KEFS_OTHER_FILES, "%s has %s file %u", opening->path, file->present ? "a" : "no", f);
-    if (wanted == NULL) continue;
-    if (file->length != wanted->length && (wanted->flags & KEFS_FILE_GROWS) == 0)
-      return fail(image, KEFS_OTHER_FILES, "file %u of %s has %u bytes, and not %u", f, opening->path, (unsigned)file->length, (unsigned)wanted->length);
+    unsigned long long length = file->length, asked = wanted->length;
+    if (length != asked && (wanted->flags & KEFS_FILE_GROWS) == 0)
+      return fail(image, KEFS_OTHER_FILES, "file %u of %s has %llu bytes, and not %llu", f, opening->path, length, asked);
     if (file->read_only != ((wanted->flags & KEFS_FILE_READ_ONLY) != 0))
       return fail(image, KEFS_OTHER_FILES, "file %u of %s is %sread-only", f, opening->path, file->read_only ? "" : "not ");
   }

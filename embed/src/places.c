@@ -84,11 +84,15 @@ static void sort_by_digit(const struct place *from, struct place *to, size_t cou
   for (size_t i = 0; i < count; i++) to[starts[(from[i].home >> DIGIT * digit) % DIGITS]++] = from[i];
 }
 
-void sort_places(struct places *places) {
-  size_t count = 0;
+void order_places(struct places *places) {
   sort_by_digit(places->list, places->spare, places->count, 0);
   sort_by_digit(places->spare, places->list, places->count, 1);
   sort_by_digit(places->list, places->spare, places->count, 2);
+}
+
+void sort_places(struct places *places) {
+  size_t count = 0;
+  order_places(places);
   for (size_t i = 0; i < places->count; i++)
     if (i == 0 || places->spare[i].home != places->spare[i - 1].home) places->list[count++] = places->spare[i];
   places->count = count;

@@ -1,15 +1,14 @@
-/* What belongs to the whole process: a lock, a number that a child of fork has not, which handles are open, and which addresses are mapped files. */
+/* What belongs to the whole process: a lock, a number that a child of fork has not, and which handles are open. */
 #define _GNU_SOURCE
 #include "internal.h"
 #include <errno.h>
-#include <stdlib.h>
 #include <sys/mman.h>
 #include <sys/stat.h>
 
 static pthread_mutex_t process_lock = PTHREAD_MUTEX_INITIALIZER;
 
-static void lock_process(void) { pthread_mutex_lock(&process_lock); }
-static void unlock_process(void) { pthread_mutex_unlock(&process_lock); }
+void lock_process(void) { pthread_mutex_lock(&process_lock); }
+void unlock_process(void) { pthread_mutex_unlock(&process_lock); }
 
 /* The number stands in memory that reads as zero in a child, which so finds that what it inherited is not its own; that holds
    of a child made by clone(2) too, where no handler of pthread_atfork runs. A process id would not do: a later process may
@@ -38,7 +37,8 @@ int this_generation(uint64_t *generation) {
   return number;
 }
 
-int is_forked(const struct kefs_image *image) { return image->generation != *generation_now; }
+int is_of_parent(uint64_t generation) { return generation != *generation_now; }
+int is_forked(const struct kefs_image *image) { return is_of_parent(image->generation); }
 
 /* Handles. A handle of a parent process is no owner in its child. */
 
@@ -80,54 +80,4 @@ int is_own(int fd) {
     found = it->owner.device == facts.st_dev && it->owner.number == facts.st_ino && it->owner.thread == this_thread() && !is_forked(it);
   unlock_process();
   return found;
-}
-
-/* Regions, of all addresses that are kept for mappings, are looked up by signal handlers, with no lock. So one that was made is never freed, but used again;
-   its start is 0 while it is not in use, and is written last. */
-struct region { uintptr_t start, end; uint64_t generation; struct mapping *mapping; struct region *next; };
-static struct region *regions;
-
-static struct region *free_region(void) {
-  for (struct region *it = regions; it != NULL; it = it->next)
-    if (__atomic_load_n(&it->start, __ATOMIC_SEQ_CST) == 0) return it;
-  struct region *made = calloc(1, sizeof *made);
-  if (made == NULL) return NULL;
-  made->next = regions;
-  __atomic_store_n(&regions, made, __ATOMIC_SEQ_CST);
-  return made;
-}
-
-static void use_region(struct region *region, struct mapping *mapping) {
-  uintptr_t start = (uintptr_t)mapping->at;
-  __atomic_store_n(&region->end, start + mapping->kept * PAGE, __ATOMIC_SEQ_CST);
-  __atomic_store_n(&region->generation, mapping->image->generation, __ATOMIC_SEQ_CST);
-  __atomic_store_n(&region->mapping, mapping, __ATOMIC_SEQ_CST);
-  __atomic_store_n(&region->start, start, __ATOMIC_SEQ_CST);
-  mapping->region = region;
-}
-
-int add_region(struct mapping *mapping) {
-  lock_process();
-  struct region *region = free_region();
-  if (region != NULL) use_region(region, mapping);
-  unlock_process();
-  return region == NULL ? ENOMEM : KEFS_OK;
-}
-
-void remove_region(struct mapping *mapping) {
-  if (mapping->region != NULL) __atomic_store_n(&mapping->region->start, 0, __ATOMIC_SEQ_CST);
-  mapping->region = NULL;
-}
-
-/* A region that another thread takes into use meanwhile is seen whole or not at all, since its start is read before and after. */
-struct mapping *mapping_at(const void *address) {
-  uintptr_t at = (uintptr_t)address;
-  for (struct region *it = __atomic_load_n(&regions, __ATOMIC_SEQ_CST); it != NULL; it = it->next) {
-    uintptr_t start = __atomic_load_n(&it->start, __ATOMIC_SEQ_CST);
-    if (start == 0 || at < start || at >= __atomic_load_n(&it->end, __ATOMIC_SEQ_CST)) continue;
-    struct mapping *mapping = __atomic_load_n(&it->mapping, __ATOMIC_SEQ_CST);
-    uint64_t generation = __atomic_load_n(&it->generation, __ATOMIC_SEQ_CST);
-    if (generation == *generation_now && __atomic_load_n(&it->start, __ATOMIC_SEQ_CST) == start) return mapping;
-  }
-  return NULL;
 }

@@ -23,6 +23,7 @@
    - INTENT, by a writer that is about to commit or to open: no reader begins a turn then.
    - TURN, shared, by readers in their turn, which takes some megabytes: the writer waits for its end.
    - LISTS, by the writer: which homes each of its last commits changed, and which of these it gave to new pages of files that got longer.
+   - DIRECTORY, by the writer: LISTS names pages of the directory, too. Where it is not locked the writer is of version 1.
    - INTEREST, shared, by readers from their first turn on: where none has it, LISTS names no home.
    That a snapshot is whole rests on the first two alone; the next three make waits short. A reader waits for the commit that is under way, and
    the writer for the turns that are. It waits for them a second at most, as for a reader that was stopped, and then goes on, and from then on in a tenth of the
@@ -37,8 +38,9 @@
    those of new pages, which LISTS names of the last commit too: they may get none, or keep one that they had. Where commits came between, a home may have the
    slot again that it had: then LISTS names it, or, where pages were copied home meanwhile, says that it does not name all. Between two turns of one reader
    there is mostly one commit, and its journal is read in the second one: so at the end of each turn the view is as after the newest commit, as far as it
-   goes. The directory of a pool is read in each turn, and the files of a turn are those that it says: what a file had read of it before stays read, since a
-   page keeps its home for as long as the file has it, and LISTS names those that came. */
+   goes. The files of a turn are those of the directory of a pool, of which each turn reads the pages that have changed, or all where the writer does not name
+   these and commits came between: what a file had read of it before stays read, since a page keeps its home for as long as the file has it, and LISTS names
+   those that came. */
 #define _GNU_SOURCE
 #include "reading.h"
 #include <errno.h>
@@ -52,7 +54,8 @@ enum { PATIENCE = 1000, LITTLE_PATIENCE = 10, SELDOM = 10 }; /* milliseconds tha
 
 /* Locks */
 
-static const off_t INTENT = (off_t)1 << 62, TURN = INTENT + 1, NEXT = INTENT + 2, INTEREST = INTENT + 3, LISTS = INTENT + ((off_t)1 << 60), STATES = INTENT + ((off_t)1 << 61);
+static const off_t INTENT = (off_t)1 << 62, TURN = INTENT + 1, NEXT = INTENT + 2, INTEREST = INTENT + 3, DIRECTORY = INTENT + 4;
+static const off_t LISTS = INTENT + ((off_t)1 << 60), STATES = INTENT + ((off_t)1 << 61);
 enum { COUNT_BITS = 24, EPOCH_BITS = 32 }; /* of a place in STATES: an opening's random number, and how many commits there were since */
 enum { REACH = 16, MOST_RUNS = 32 };       /* commits that LISTS names, and runs of neighbouring homes that one of them may have there */
 
@@ -166,6 +169,19 @@ static int tell_new_homes(struct kefs_image *image, off_t state) {
   return number;
 }
 
+/* Tells which pages of the directory a commit has changed, which are the first homes: all of them, or an errno value. */
+static int tell_directory(struct kefs_image *image, off_t state) {
+  const struct famsync_size *sizes = image->resizing.sizes, *end = sizes + image->resizing.count;
+  int number = KEFS_OK;
+  if (image->planned != &image->resizing.lent) return KEFS_OK;
+  for (int runs = 0; sizes < end && number == KEFS_OK; runs++) {
+    off_t first = sizes->file / PAGE_ENTRIES, last = first;
+    for (; sizes < end && sizes->file / PAGE_ENTRIES <= last + 1; sizes++) last = sizes->file / PAGE_ENTRIES;
+    number = runs == MOST_RUNS ? E2BIG : set_locks(image->fd, F_WRLCK, list_of(state) + first, last + 1 - first);
+  }
+  return number;
+}
+
 /* Tells which homes are other ones since the state before this one. Where they are too many runs readers look at all pages, and none is named, nor where there is no
    reader: each lock takes time by the number of those that are there. */
 static int tell_homes(struct kefs_image *image, off_t state) {
@@ -174,6 +190,7 @@ static int tell_homes(struct kefs_image *image, off_t state) {
     homes = run_of(image, i);
     number = set_locks(fd, F_WRLCK, list_of(state) + home_taken(image, i), (off_t)homes);
   }
+  if (names_all && number == KEFS_OK) number = tell_directory(image, state);
   if (!names_all && number == KEFS_OK) number = set_lock(fd, F_WRLCK, end_of_list(state));
   return number == KEFS_OK ? tell_new_homes(image, state) : number;
 }
@@ -234,6 +251,7 @@ int lock_to_write(struct kefs_image *image, long limit) {
   int number = limit < 0 ? own_at_last(&owning) : look_until(try_to_own, &owning, &owning.wait);
   if (number != KEFS_OK) return number;
   int locked = set_lock(image->fd, F_WRLCK, INTENT), shares = locked == KEFS_OK || locked == EAGAIN || locked == EACCES;
+  if (shares) set_lock(image->fd, F_WRLCK, DIRECTORY);
   image->turns = (struct turns){.shares = shares, .changes = shares, .is_new = 1};
   long left = owning.wait.end - milliseconds(), patience = left < PATIENCE ? left : PATIENCE;
   int had_turns = !shares || wait_for_readers(image->fd, TURN, patience < 0 ? 0 : patience);
@@ -374,5 +392,7 @@ off_t count_told(const struct reading *reading) {
   }
   return sum;
 }
+
+int tells_directory(const struct kefs_image *image) { return locked_byte(image->fd, F_RDLCK, DIRECTORY, 1) != 0; }
 
 off_t state_now(const struct kefs_image *image) { return state_of(image->fd); }

@@ -17,6 +17,7 @@ struct snapshot {
   unsigned char *at;     /* all of it, mapped shared */
   size_t length, before; /* of it, and how many bytes of it come before the image, so that home pages are pages of the memory */
   struct places places;  /* of a pool: where pages stood in the file */
+  struct places ends;    /* the homes of last pages that are not full, each with how many bytes its file has there */
   off_t state;           /* what it is as of, or 0 */
   struct timespec time;  /* of the file's last change before it was made, */
   int is_calm;           /* and whether a later change is sure to have another one */
@@ -35,13 +36,15 @@ struct reading {
   struct timespec time;   /* as of this time of change */
   unsigned file;          /* the pages of this file were read as far as this many bytes */
   off_t done;
-  off_t data, hole;       /* the file has no hole between these */
+  off_t begin, data, hole; /* the file has a hole between the first two, in this turn, and none between the last two; */
+  size_t clear, used;     /* and the copy's memory one in the pages from the first of these on up to the other one */
   int restarts;
   struct stat facts;      /* of the host file, in this turn */
   struct timespec began;
   struct places now, was; /* of a pool: where pages stand in this turn, and stood in the one before */
   unsigned char *map;     /* and room for a map of it */
   int has_files;          /* the image's files are those of the view's directory, */
+  int has_new_files;      /* which are not those of the snapshot, */
   int is_looked_at;       /* and the proved part has looked at it */
 };
 
@@ -55,8 +58,9 @@ int begin_turn(struct reading *reading);
 /* Whether what was read in the turn is of one state. Where there is more to read, one commit comes between at most. */
 int end_turn(struct reading *reading, int is_over);
 int is_same_time(const struct timespec *one, const struct timespec *other);
-/* The state of the file now, or 0. */
+/* The state of the file now, or 0; and whether the writer names pages of the directory that commits have changed. */
 off_t state_now(const struct kefs_image *image);
+int tells_directory(const struct kefs_image *image);
 /* Where LISTS begins to tell of a state's commit: the homes of pages that were pages before, and those of new ones. And how far such a list goes: the homes
    of one run from `at` on, or none, where `count` is 0. */
 off_t list_of(off_t state);
@@ -77,5 +81,11 @@ int is_read(struct reading *reading);
 void put(struct reading *reading, size_t offset, const unsigned char *from, size_t length);
 /* Which page of the memory a byte of the image is in. */
 size_t page_of(const struct reading *reading, size_t offset);
+/* Whether a home has another place than in a list of others, which it is looked for in from `i` on: homes are asked for in their order. */
+int has_other_place(const struct places *was, size_t *i, const struct place *now);
+/* Of a refresh the first page of the memory from `k` on that was altered, or `end`. */
+size_t next_altered(const struct reading *reading, size_t k, size_t end);
+/* Of the view the first page from `k` on that may hold other bytes than zeros, or `end`, or a later one. Others take no memory as long as nobody touches them. */
+size_t next_used(struct reading *reading, size_t k, size_t end);
 
 #endif

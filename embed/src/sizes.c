@@ -18,17 +18,34 @@ static int is_zero(const unsigned char *bytes, size_t length) { return memcmp(by
 
 /* Lengths */
 
-uint32_t length_of(const struct kefs_image *image, unsigned f) { return image->sizes[f].is_set ? image->sizes[f].length : image->files[f].length; }
-uint32_t left_of(const struct kefs_image *image, unsigned f) { return image->sizes[f].is_set ? image->sizes[f].left : image->files[f].length; }
+static int is_changed(const struct kefs_image *image, unsigned f) { return has_number(&image->changed, f); }
 
-static void set_size(struct kefs_image *image, unsigned f, uint32_t length, uint32_t left) {
-  struct size *size = &image->sizes[f];
-  uint32_t durable = image->files[f].length;
-  size->length = length, size->left = left;
-  size->is_set = size->is_new || length != durable || left != durable;
+uint64_t length_of(const struct kefs_image *image, unsigned f) { return is_changed(image, f) ? image->sizes[f].length : image->files[f].length; }
+uint64_t left_of(const struct kefs_image *image, unsigned f) { return is_changed(image, f) ? image->sizes[f].left : image->files[f].length; }
+
+void forget_size(struct kefs_image *image, unsigned f) {
+  if (!is_changed(image, f)) return;
+  image->lacks -= image->sizes[f].lacks, image->wants -= image->sizes[f].wants;
+  drop_number(&image->changed, f);
 }
 
-void forget_size(struct kefs_image *image, unsigned f) { image->sizes[f] = (struct size){0}; }
+void put_size(struct kefs_image *image, unsigned f, const struct size *size) {
+  struct size put = *size;
+  find_lacks(image, f, &put);
+  forget_size(image, f);
+  image->sizes[f] = put;
+  image->lacks += put.lacks, image->wants += put.wants;
+  add_number(&image->changed, f);
+}
+
+static void set_size(struct kefs_image *image, unsigned f, uint64_t length, uint64_t left) {
+  struct size size = is_changed(image, f) ? image->sizes[f] : (struct size){0};
+  uint64_t durable = image->files[f].length;
+  size.length = length, size.left = left;
+  if (size.is_new || length != durable || left != durable) put_size(image, f, &size);
+  else forget_size(image, f);
+}
+
 void settle_size(struct kefs_image *image, unsigned f) { set_size(image, f, length_of(image, f), image->files[f].length); }
 
 /* How many new pages a file has. */
@@ -47,7 +64,7 @@ static struct span edge_of(struct kefs_image *image, unsigned f) {
 /* Memory */
 
 /* Where a mapping has other bytes than zeros behind so many, up to the end of the page, *tail is where, and they may be stored to; else it is NULL. */
-static int open_tail(struct mapping *mapping, uint32_t length, unsigned char **tail) {
+static int open_tail(struct mapping *mapping, uint64_t length, unsigned char **tail) {
   size_t k = length / PAGE, inside = length % PAGE;
   struct span page = {mapping, k, k + 1};
   int number = inside == 0 ? KEFS_OK : fill_missing(&page);
@@ -58,8 +75,8 @@ static int open_tail(struct mapping *mapping, uint32_t length, unsigned char **t
 }
 
 /* Brings a mapping from one length to another. What may fail comes before what can't be taken back. */
-static int fit(struct mapping *mapping, uint32_t before, uint32_t length) {
-  uint32_t least = before < length ? before : length;
+static int fit(struct mapping *mapping, uint64_t before, uint64_t length) {
+  uint64_t least = before < length ? before : length;
   size_t pages = (size_t)pages_of(length);
   unsigned char *tail;
   int number = open_tail(mapping, least, &tail);
@@ -72,7 +89,7 @@ static int fit(struct mapping *mapping, uint32_t before, uint32_t length) {
 int fit_new_mapping(struct mapping *mapping) {
   struct kefs_image *image = mapping->image;
   unsigned f = file_number(mapping);
-  return image->sizes[f].is_set ? fit(mapping, left_of(image, f), length_of(image, f)) : KEFS_OK;
+  return is_changed(image, f) ? fit(mapping, left_of(image, f), length_of(image, f)) : KEFS_OK;
 }
 
 /* Resizing */
@@ -84,23 +101,25 @@ static int check_resize(struct kefs_image *image, unsigned file, size_t length) 
   if (is_names_file(image, file)) return fail(image, EINVAL, "file %u is the names of others", file);
   if (image->files[file].read_only) return fail(image, KEFS_READ_ONLY, "file %u", file);
   if (image->layout.blocks == 0) return fail(image, EOPNOTSUPP, "lengths of an image of layout %u", (unsigned)image->layout.number);
-  if (length > UINT32_MAX) return fail(image, EFBIG, "%zu bytes", length);
+  if (length > LONGEST_FILE) return fail(image, EFBIG, "%zu bytes", length);
   const struct mapping *mapping = &image->mappings[file];
-  if (mapping->at == NULL || pages_of((uint32_t)length) <= mapping->kept) return KEFS_OK;
+  if (mapping->at == NULL || pages_of(length) <= mapping->kept) return KEFS_OK;
   return fail(image, ENOMEM, "%zu bytes of file %u, whose mapping keeps addresses for %zu pages", length, file, mapping->kept);
 }
 
 /* Of a mapped file what is left is all that is durable. */
-static int resize(struct kefs_image *image, unsigned f, uint32_t length) {
+static int resize(struct kefs_image *image, unsigned f, uint64_t length) {
   struct mapping *mapping = &image->mappings[f];
+  int was_changed = is_changed(image, f);
   struct size kept = image->sizes[f];
-  uint32_t before = length_of(image, f), left = left_of(image, f);
+  uint64_t before = length_of(image, f), left = left_of(image, f);
   if (length == before) return KEFS_OK;
   set_size(image, f, length, mapping->at == NULL && length < left ? length : left);
-  int result = length > before ? make_homes(image) : KEFS_OK, number = KEFS_OK;
+  int result = length > before ? make_homes(image, f) : KEFS_OK, number = KEFS_OK;
   if (result == KEFS_OK && mapping->at != NULL) number = fit(mapping, before, length);
   if (number != KEFS_OK) result = fail(image, number == EIO ? KEFS_DEVICE : number, "memory of file %u: %s", f, kefs_strerror(number));
-  if (result != KEFS_OK) image->sizes[f] = kept;
+  if (result != KEFS_OK && was_changed) put_size(image, f, &kept);
+  if (result != KEFS_OK && !was_changed) forget_size(image, f);
   return result;
 }
 
@@ -109,31 +128,28 @@ int kefs_resize(kefs_image *image, unsigned file, size_t length) {
   if (result != KEFS_OK) return result;
   result = check_resize(image, file, length);
   ignore_reads(1);
-  if (result == KEFS_OK) result = resize(image, file, (uint32_t)length);
+  if (result == KEFS_OK) result = resize(image, file, length);
   ignore_reads(0);
   return leave(image, result);
 }
 
 /* Commits */
 
-/* What a call of these ranges is of: a bit for each file whose length it takes, or that comes or goes, and whether it takes names. */
-struct meant { uint64_t files; int names; };
+/* What a call of these ranges is of: the files whose lengths it takes, or that come or go, and whether it takes names. */
+struct meant { struct numbers files; int names; };
 
-static int is_meant(const struct meant *meant, unsigned f) { return (int)(meant->files >> f & 1); }
-
-static struct meant find_meant(struct kefs_image *image, const struct kefs_range *ranges, size_t count) {
-  struct meant meant = {0, means_files(image, ranges, count)};
-  for (unsigned f = 0; f < KEFS_FILES; f++) {
-    if (!image->sizes[f].is_set) continue;
-    int takes = comes_or_goes(image, f) ? meant.names : ranges == NULL || has_byte_of(&image->mappings[f], ranges, count);
-    meant.files |= (uint64_t)takes << f;
+static void find_meant(struct kefs_image *image, const struct kefs_range *ranges, size_t count, struct meant *meant) {
+  *meant = (struct meant){.names = means_files(image, ranges, count)};
+  for (unsigned f = first_number(&image->changed); f < KEFS_FILES; f = next_number(&image->changed, f + 1)) {
+    int takes = comes_or_goes(image, f) ? meant->names : ranges == NULL || has_byte_of(&image->mappings[f], ranges, count);
+    if (takes) add_number(&meant->files, f);
   }
-  return meant;
 }
 
 int has_sizes(struct kefs_image *image, const struct kefs_range *ranges, size_t count) {
-  struct meant meant = find_meant(image, ranges, count);
-  return meant.files != 0 || (meant.names && pending_names(image) != 0);
+  struct meant meant;
+  find_meant(image, ranges, count, &meant);
+  return meant.files.some != 0 || (meant.names && next_changed_name_page(image, 0) < KEFS_FILES);
 }
 
 static void add_size(struct kefs_image *image, unsigned f) {
@@ -162,14 +178,32 @@ static void drop_lent(struct kefs_image *image) {
   resizing->lent.bytes = NULL, resizing->room = 0;
 }
 
+static void drop_edges(struct kefs_image *image) {
+  struct resizing *resizing = &image->resizing;
+  drop_memory(resizing->edges, resizing->edge_room * PAGE);
+  resizing->edges = NULL, resizing->edge_room = 0;
+}
+
+/* A file's edge has one page at most that is neither zeros nor memory. */
+static int make_edges(struct kefs_image *image) {
+  struct resizing *resizing = &image->resizing;
+  size_t room = room_for(resizing->count);
+  resizing->edge_count = 0;
+  if (room <= resizing->edge_room) return KEFS_OK;
+  drop_edges(image);
+  resizing->edges = new_memory(room * PAGE);
+  if (resizing->edges == NULL) return ENOMEM;
+  resizing->edge_room = room;
+  return KEFS_OK;
+}
+
 /* Where there is room in plans, and none for the rest, the end of the commit gives that of the plans back. */
 static int make_sizes_room(struct kefs_image *image) {
   struct resizing *resizing = &image->resizing;
   size_t room = room_for(resizing->added);
-  if (resizing->edges == NULL) resizing->edges = new_memory((size_t)KEFS_FILES * PAGE);
-  if (resizing->edges == NULL) return ENOMEM;
-  if (room <= resizing->room) return KEFS_OK;
-  int number = set_plan_rooms(image, room);
+  int number = make_edges(image);
+  if (number != KEFS_OK || room <= resizing->room) return number;
+  number = set_plan_rooms(image, room);
   if (number != KEFS_OK) return number;
   drop_lent(image);
   resizing->lent.bytes = new_memory(lent_length(image, room));
@@ -180,13 +214,13 @@ static int make_sizes_room(struct kefs_image *image) {
 
 static void trim_room(struct kefs_image *image) {
   if (image->resizing.room > MOST_KEPT) drop_lent(image);
+  if (image->resizing.edge_room > LEAST_ROOM) drop_edges(image);
   set_plan_rooms(image, image->resizing.room);
 }
 
 void drop_sizes(struct kefs_image *image) {
   drop_lent(image);
-  drop_memory(image->resizing.edges, (size_t)KEFS_FILES * PAGE);
-  image->resizing.edges = NULL;
+  drop_edges(image);
 }
 
 /* Those of a mapped file. */
@@ -207,10 +241,10 @@ static int take_new_pages(struct kefs_image *image, unsigned f) {
 
 int take_sizes(struct kefs_image *image, const struct kefs_range *ranges, size_t count) {
   struct resizing *resizing = &image->resizing;
-  struct meant meant = find_meant(image, ranges, count);
-  resizing->names = meant.names ? pending_names(image) : 0;
-  for (unsigned f = 0; f < KEFS_FILES; f++)
-    if (is_meant(&meant, f)) add_size(image, f);
+  struct meant meant;
+  find_meant(image, ranges, count, &meant);
+  resizing->has_names = meant.names;
+  for (unsigned f = first_number(&meant.files); f < KEFS_FILES; f = next_number(&meant.files, f + 1)) add_size(image, f);
   int number = resizing->count > 0 ? make_sizes_room(image) : KEFS_OK;
   for (size_t i = 0; i < resizing->count && number == KEFS_OK; i++) number = take_new_pages(image, resizing->sizes[i].file);
   return number == KEFS_OK ? KEFS_OK : fail(image, number, "taking new pages");
@@ -218,8 +252,9 @@ int take_sizes(struct kefs_image *image, const struct kefs_range *ranges, size_t
 
 /* Pages of the names go with it as those of an edge do. */
 static int put_names(struct kefs_image *image) {
-  for (size_t k = 0; k < NAMES_PAGES; k++)
-    if ((image->resizing.names >> k & 1) != 0 && !put_taken(image, 0, k)) return are_too_many(image);
+  if (!image->resizing.has_names) return KEFS_OK;
+  for (size_t k = next_changed_name_page(image, 0); k < KEFS_FILES; k = next_changed_name_page(image, k + 1))
+    if (!put_taken(image, 0, k)) return are_too_many(image);
   return KEFS_OK;
 }
 
@@ -237,11 +272,13 @@ int take_edges(struct kefs_image *image) {
   return result;
 }
 
+/* It is asked for each page once. */
 const unsigned char *edge_bytes(struct kefs_image *image, unsigned f, size_t k) {
+  struct resizing *resizing = &image->resizing;
   if (is_names_file(image, f)) return names_page(image, k);
   size_t left = left_of(image, f);
-  unsigned char *edge = image->resizing.edges + (size_t)PAGE * f;
   if (k * PAGE >= left) return zeros;
+  unsigned char *edge = resizing->edges + PAGE * resizing->edge_count++;
   copy_durable(image, f, k, edge);
   if (left - k * PAGE < PAGE) memset(edge + (left - k * PAGE), 0, PAGE - (left - k * PAGE));
   return edge;
@@ -330,12 +367,16 @@ static void give_back_new_pages(struct kefs_image *image, unsigned f) {
   open_pages(&span);
 }
 
+/* Homes are listed anew after a commit of more files than these: that takes less than so many changes of a long list (growing.c). */
+enum { MOST_FOLLOWED = 64 };
+
 void end_sizes(struct kefs_image *image, int done) {
   struct resizing *resizing = &image->resizing;
-  if (done) settle_names(image, resizing->names);
-  resizing->names = 0;
+  if (done && resizing->has_names) settle_names(image);
+  resizing->has_names = 0;
   if (resizing->count == 0) return;
-  if (done) read_directory(image);
+  if (done && resizing->count > MOST_FOLLOWED) image->homes.is_listed = 0;
+  if (done) read_entries(image, resizing->sizes, resizing->count);
   for (size_t i = 0; i < resizing->count; i++)
     if (done) forget_size(image, resizing->sizes[i].file);
     else give_back_new_pages(image, resizing->sizes[i].file);
@@ -353,15 +394,16 @@ static size_t count_edge(struct kefs_image *image, unsigned f) {
 }
 
 size_t count_sized(struct kefs_image *image, const struct kefs_range *ranges, size_t count) {
-  struct meant meant = find_meant(image, ranges, count);
-  size_t pages = meant.names ? (size_t)__builtin_popcount(pending_names(image)) : 0;
-  for (unsigned f = 0; f < KEFS_FILES; f++)
-    if (is_meant(&meant, f)) pages += added_pages(image, f) + count_edge(image, f);
+  struct meant meant;
+  find_meant(image, ranges, count, &meant);
+  size_t pages = meant.names ? count_changed_name_pages(image) : 0;
+  for (unsigned f = first_number(&meant.files); f < KEFS_FILES; f = next_number(&meant.files, f + 1))
+    pages += added_pages(image, f) + count_edge(image, f);
   return pages;
 }
 
 /* The bytes of a page that were cut off from its end. */
-static int restore_tail(struct mapping *mapping, uint32_t length) {
+static int restore_tail(struct mapping *mapping, uint64_t length) {
   unsigned char page[PAGE];
   size_t k = length / PAGE, inside = length % PAGE;
   struct span span = {mapping, k, k + 1};
@@ -376,7 +418,7 @@ static int restore_tail(struct mapping *mapping, uint32_t length) {
 
 static int roll_back_size(struct kefs_image *image, unsigned f) {
   struct mapping *mapping = &image->mappings[f];
-  uint32_t durable = image->files[f].length, length = length_of(image, f);
+  uint64_t durable = image->files[f].length, length = length_of(image, f);
   int number = KEFS_OK;
   if (mapping->at != NULL && length > durable) number = fit(mapping, length, durable);
   if (mapping->at != NULL && length < durable) number = restore_tail(mapping, length);
@@ -387,10 +429,11 @@ static int roll_back_size(struct kefs_image *image, unsigned f) {
 
 /* Where it fails, the names that are left are of files that are there. */
 int roll_back_sizes(struct kefs_image *image, const struct kefs_range *ranges, size_t count) {
-  struct meant meant = find_meant(image, ranges, count);
+  struct meant meant;
   int number = KEFS_OK;
-  for (unsigned f = 0; f < KEFS_FILES && number == KEFS_OK; f++)
-    if (is_meant(&meant, f)) number = roll_back_size(image, f);
+  find_meant(image, ranges, count, &meant);
+  for (unsigned f = first_number(&meant.files); f < KEFS_FILES && number == KEFS_OK; f = next_number(&meant.files, f + 1))
+    number = roll_back_size(image, f);
   if (meant.names) roll_back_names(image);
   return number;
 }

@@ -16,11 +16,17 @@ int begin_snapshot(struct kefs_image *image, long limit) {
   return KEFS_OK;
 }
 
+static void drop_ends(const struct kefs_image *image, struct places *ends) {
+  drop_memory(ends->list, image->entries * sizeof *ends->list), drop_memory(ends->spare, image->entries * sizeof *ends->spare);
+  *ends = (struct places){0};
+}
+
 static void drop_copy(struct kefs_image *image) {
   struct snapshot *snapshot = image->snapshot;
   drop_memory(snapshot->at, snapshot->length);
   if (snapshot->memory >= 0) close(snapshot->memory);
   drop_places(&snapshot->places);
+  drop_ends(image, &snapshot->ends);
   *snapshot = (struct snapshot){.limit = snapshot->limit, .memory = -1};
   image->bytes = NULL;
 }
@@ -106,17 +112,16 @@ static void note_file(struct mapping *mapping, const struct file *file) {
 }
 
 /* Brings all mapped files to the lengths that files have now, which had others before; or, where that fails, leaves them as they were. */
-static int change_mappings(struct kefs_image *image, const struct file *before) {
+static int change_mappings(struct kefs_image *image) {
+  const struct numbers *mapped = &image->mapped;
   int number = KEFS_OK;
-  unsigned f = 0;
-  for (; f < KEFS_FILES && number == KEFS_OK; f++) number = change_mapping(&image->mappings[f], &before[f], &image->files[f]);
-  if (number != KEFS_OK) {
-    while (f-- > 0) change_mapping(&image->mappings[f], &image->files[f], &before[f]);
-    return fail(image, number, "other lengths of mapped files: %s", kefs_strerror(number));
-  }
-  for (f = 0; f < KEFS_FILES; f++)
-    if (image->mappings[f].at != NULL) note_file(&image->mappings[f], &image->files[f]);
-  return KEFS_OK;
+  unsigned end = first_number(mapped);
+  for (; end < KEFS_FILES && number == KEFS_OK; end = next_number(mapped, end + 1))
+    number = change_mapping(&image->mappings[end], &image->mappings[end].file, &image->files[end]);
+  for (unsigned f = first_number(mapped); f < end; f = next_number(mapped, f + 1))
+    if (number == KEFS_OK) note_file(&image->mappings[f], &image->files[f]);
+    else change_mapping(&image->mappings[f], &image->files[f], &image->mappings[f].file);
+  return number == KEFS_OK ? KEFS_OK : fail(image, number, "other lengths of mapped files: %s", kefs_strerror(number));
 }
 
 /* Longer images */
@@ -206,22 +211,62 @@ static int read_used(struct reading *reading) {
   return result;
 }
 
-/* Past a file's end its last page is zeros, whatever the image holds there. */
-static void put_zeros(struct reading *reading) {
-  static const unsigned char zeros[PAGE];
-  const struct kefs_image *image = reading->image;
-  for (unsigned f = 0; f < KEFS_FILES; f++) {
+/* Ends. Past a file's end its last page is zeros, whatever the image holds there. */
+
+static int new_ends(struct kefs_image *image, struct places *ends) {
+  *ends = (struct places){.list = new_memory(image->entries * sizeof *ends->list), .spare = new_memory(image->entries * sizeof *ends->spare)};
+  return ends->list != NULL && ends->spare != NULL ? KEFS_OK : fail(image, ENOMEM, "memory for the ends of files");
+}
+
+static void list_ends(const struct kefs_image *image, struct places *ends) {
+  for (unsigned f = first_number(&image->present); f < KEFS_FILES; f = next_number(&image->present, f + 1)) {
     const struct file *file = &image->files[f];
-    size_t inside = file->length % PAGE, last = file->length / PAGE;
-    if (!file->present || inside == 0) continue;
-    put(reading, (size_t)home_offset(&image->layout, home_of_page(file, last)) + inside, zeros, PAGE - inside);
+    uint32_t inside = (uint32_t)(file->length % PAGE);
+    if (inside > 0) ends->list[ends->count++] = (struct place){home_of_page(file, file->length / PAGE), inside};
+  }
+  sort_places(ends);
+}
+
+static size_t page_of_home(const struct reading *reading, uint32_t home) { return page_of(reading, (size_t)home_offset(&reading->image->layout, home)); }
+
+static void put_end(struct reading *reading, const struct place *end) {
+  static const unsigned char zeros[PAGE];
+  size_t k = page_of_home(reading, end->home);
+  if (next_used(reading, k, k + 1) > k) return;
+  put(reading, (size_t)home_offset(&reading->image->layout, end->home) + end->sector, zeros, PAGE - end->sector);
+}
+
+/* Where files are others than in the snapshot: those whose ends are others, or were read. */
+static int put_new_ends(struct reading *reading) {
+  struct kefs_image *image = reading->image;
+  struct places *was = &image->snapshot->ends, now;
+  size_t i = 0;
+  if (new_ends(image, &now) != KEFS_OK) return drop_ends(image, &now), ENOMEM;
+  list_ends(image, &now);
+  for (const struct place *end = now.list; end < now.list + now.count; end++) {
+    int is_other = has_other_place(was, &i, end);
+    if (is_other || reading->altered == NULL || bit_of(reading->altered, page_of_home(reading, end->home))) put_end(reading, end);
+  }
+  drop_ends(image, was);
+  *was = now;
+  return KEFS_OK;
+}
+
+/* Else those that were read. */
+static void put_ends(struct reading *reading) {
+  const struct places *ends = &reading->image->snapshot->ends;
+  size_t homes = page_of_home(reading, 0), pages = reading->length / PAGE;
+  for (size_t k = next_altered(reading, homes, pages); k < pages; k = next_altered(reading, k + 1, pages)) {
+    size_t i = first_place(ends, (uint32_t)(k - homes));
+    if (i < ends->count && ends->list[i].home == k - homes) put_end(reading, &ends->list[i]);
   }
 }
 
 static int read_view(struct reading *reading) {
   int result = read_used(reading);
-  if (result == KEFS_OK) put_zeros(reading);
-  return result;
+  if (result != KEFS_OK) return result;
+  if (reading->has_new_files || reading->altered == NULL) return put_new_ends(reading);
+  return put_ends(reading), KEFS_OK;
 }
 
 /* What the snapshot is as of from here on. */
@@ -282,17 +327,27 @@ int read_snapshot(struct kefs_image *image) {
 static int show(struct reading *reading) {
   struct kefs_image *image = reading->image;
   const struct snapshot *snapshot = image->snapshot;
-  size_t pages = reading->length / PAGE, homes = page_of(reading, (size_t)home_offset(&image->layout, 0));
+  size_t pages = reading->length / PAGE, homes = page_of_home(reading, 0);
   int changed = 0;
-  for (size_t k = 0; k < pages; k++) {
-    if (k % 8 == 0 && reading->altered[k / 8] == 0) k += 7;
-    else if (bit_of(reading->altered, k) && memcmp(snapshot->at + k * PAGE, reading->view + k * PAGE, PAGE) != 0) {
-      memcpy(snapshot->at + k * PAGE, reading->view + k * PAGE, PAGE);
-      changed |= k >= homes;
-      if (k >= homes && image->late != NULL) set_bit(image->late, k - homes);
-    }
+  for (size_t k = next_altered(reading, 0, pages); k < pages; k = next_altered(reading, k + 1, pages)) {
+    if (memcmp(snapshot->at + k * PAGE, reading->view + k * PAGE, PAGE) == 0) continue;
+    memcpy(snapshot->at + k * PAGE, reading->view + k * PAGE, PAGE);
+    changed |= k >= homes;
+    if (k >= homes && image->late != NULL) set_bit(image->late, k - homes);
   }
   return changed;
+}
+
+/* Names are read anew where file 0 or its bytes may be others. */
+static void forget_names(const struct reading *reading) {
+  struct kefs_image *image = reading->image;
+  const struct file *file = &image->files[0];
+  int is_altered = reading->has_new_files;
+  for (unsigned i = 0; i < file->extent_count && image->names != NULL && !is_altered; i++) {
+    size_t first = page_of_home(reading, file->extents[i].first), end = first + file->extents[i].count;
+    is_altered = file->extents[i].count > 0 && next_altered(reading, first, end) < end;
+  }
+  if (is_altered) end_names(image);
 }
 
 /* Whether the file surely is as it was for the snapshot: it has not changed since, or the writer has not committed. */
@@ -303,31 +358,30 @@ static int is_same(const struct kefs_image *image) {
   return (snapshot->is_calm && is_same_time(&now.st_ctim, &snapshot->time)) || (snapshot->state != 0 && state_now(image) == snapshot->state);
 }
 
-/* What an image says of its files, which is as before where a refresh fails. */
-struct said { struct file files[KEFS_FILES]; size_t sectors; struct kefs_stat stat; };
+/* What an image says of its files is as before where a refresh fails. */
+struct said { size_t sectors; struct kefs_stat stat; };
 
-static void keep_said(const struct kefs_image *image, struct said *said) {
-  memcpy(said->files, image->files, sizeof said->files);
-  said->sectors = image->sectors, said->stat = image->stat;
-}
-
-static void say_again(struct kefs_image *image, const struct said *said) {
-  memcpy(image->files, said->files, sizeof said->files);
+/* The copy still has the directory of before. */
+static void say_again(struct reading *reading, const struct said *said) {
+  struct kefs_image *image = reading->image;
   image->sectors = said->sectors, image->stat = said->stat;
+  if (!reading->has_new_files) return;
+  read_directory(image);
+  image->snapshot->ends.count = 0;
+  list_ends(image, &image->snapshot->ends);
 }
 
 /* For the time of the reading the image's bytes and files are those of the view. The mapped files show what they showed, in other places where pages have
    come, until the pages that differ are brought over. */
 static int refresh_by(struct reading *reading, int *changed) {
   struct kefs_image *image = reading->image;
-  struct said before;
-  keep_said(image, &before);
+  struct said before = {image->sectors, image->stat};
   image->bytes = reading->view + image->snapshot->before;
   int result = read_view(reading);
-  if (result == KEFS_OK) result = change_mappings(image, before.files);
-  if (result == KEFS_OK) note_reading(reading), *changed = show(reading);
-  else say_again(image, &before);
+  if (result == KEFS_OK && reading->has_new_files) result = change_mappings(image);
+  if (result == KEFS_OK) note_reading(reading), *changed = show(reading), forget_names(reading);
   image->bytes = image->snapshot->at + image->snapshot->before;
+  if (result != KEFS_OK) say_again(reading, &before);
   forget_places(image);
   return result;
 }

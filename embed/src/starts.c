@@ -70,7 +70,7 @@ static int find_page(const struct taken *among, const struct famsync_page *page,
 
 const unsigned char *started_bytes(const struct kefs_image *image, const struct mapping *mapping, size_t k) {
   const struct taken *gathered = &image->starts.gathered.taken;
-  struct famsync_page page = {(uint8_t)(mapping - image->mappings), (uint32_t)k};
+  struct famsync_page page = {(uint16_t)file_number(mapping), (uint32_t)k};
   size_t at;
   return find_page(gathered, &page, &at) ? gathered->bytes[at].at : NULL;
 }
@@ -92,7 +92,7 @@ static void add_pages(struct started *to, const struct taken *more, int is_newer
   size_t used = there->count, left = used, others = renew(there, more, is_newer), at = used + others;
   there->count = at;
   for (size_t i = more->count; i-- > 0 && others > 0;) {
-    uint32_t order = order_of(&more->pages[i]);
+    uint64_t order = order_of(&more->pages[i]);
     for (; left > 0 && order_of(&there->pages[left - 1]) > order; left--) at--, there->pages[at] = there->pages[left - 1], there->bytes[at] = there->bytes[left - 1];
     if (left > 0 && order_of(&there->pages[left - 1]) == order) continue;
     unsigned char *copy = to->copies + PAGE * used++;

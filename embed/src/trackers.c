@@ -94,8 +94,8 @@ static int fill_slots_of(struct mapping *mapping) {
 
 int fill_slotted(struct kefs_image *image) {
   int number = KEFS_OK;
-  for (unsigned f = 0; f < KEFS_FILES && number == KEFS_OK; f++)
-    if (image->mappings[f].at != NULL) number = fill_slots_of(&image->mappings[f]);
+  for (unsigned f = image->lazy ? first_number(&image->mapped) : KEFS_FILES; f < KEFS_FILES && number == KEFS_OK; f = next_number(&image->mapped, f + 1))
+    number = fill_slots_of(&image->mappings[f]);
   return number;
 }
 
@@ -321,17 +321,27 @@ static int note_slot(struct mapping *mapping, size_t k, uint32_t sector) {
   return KEFS_OK;
 }
 
+/* Of the pages that have the homes of an extent, from page `first` on, those that stand elsewhere. */
+static int put_others_of(struct mapping *mapping, const struct extent *extent, size_t first) {
+  const struct kefs_image *image = mapping->image;
+  const struct places *places = image_places(mapping->image);
+  size_t count = extent->count < mapping->pages - first ? extent->count : mapping->pages - first;
+  int number = KEFS_OK;
+  for (size_t i = first_place(places, extent->first); i < places->count && places->list[i].home - extent->first < count && number == KEFS_OK; i++) {
+    size_t k = first + (places->list[i].home - extent->first);
+    number = image->lazy && image->layout.blocks > 0 ? note_slot(mapping, k, places->list[i].sector) : put_page(mapping, k);
+  }
+  return number;
+}
+
 /* Reads the pages whose bytes are not those of their homes: the pages of the journal or the pool, and a last page that zeros end. Of a pool, which may be large, they
    are read late too. */
 static int put_others(struct mapping *mapping) {
-  const struct kefs_image *image = mapping->image;
-  const struct places *places = image_places(mapping->image);
-  int number = mapping->file.length % PAGE == 0 ? KEFS_OK : put_page(mapping, mapping->pages - 1);
-  for (size_t i = 0; i < places->count && number == KEFS_OK; i++) {
-    size_t k = page_of_home(&mapping->file, mapping->pages, places->list[i].home);
-    if (k == mapping->pages) continue;
-    number = image->lazy && image->layout.blocks > 0 ? note_slot(mapping, k, places->list[i].sector) : put_page(mapping, k);
-  }
+  const struct file *file = &mapping->file;
+  int number = file->length % PAGE == 0 ? KEFS_OK : put_page(mapping, mapping->pages - 1);
+  size_t first = 0;
+  for (unsigned i = 0; i < file->extent_count && first < mapping->pages && number == KEFS_OK; first += file->extents[i++].count)
+    number = put_others_of(mapping, &file->extents[i], first);
   return number;
 }
 

@@ -12,6 +12,12 @@ size_t page_of(const struct reading *reading, size_t offset) { return (reading->
 /* Bytes of the view from an offset of the image on. */
 static unsigned char *view_at(const struct reading *reading, size_t offset) { return reading->view + reading->image->snapshot->before + offset; }
 
+/* Bytes have come into these pages of the copy itself. */
+static void note_used(struct reading *reading, size_t first, size_t end) {
+  if (reading->altered != NULL || end <= reading->clear || reading->used <= first) return;
+  reading->used = first > reading->clear ? first : reading->clear;
+}
+
 /* Puts bytes into the view, within one page of its memory. A page that was not altered is that of the copy, and is compared there: to touch
    one of a new view costs a fault. */
 void put(struct reading *reading, size_t offset, const unsigned char *from, size_t length) {
@@ -21,6 +27,7 @@ void put(struct reading *reading, size_t offset, const unsigned char *from, size
   const unsigned char *there = is_altered ? view_at(reading, offset) : snapshot->at + snapshot->before + offset;
   if (memcmp(there, from, length) == 0) return;
   memcpy(view_at(reading, offset), from, length);
+  note_used(reading, k, k + 1);
   if (!is_altered) set_bit(reading->altered, k);
 }
 
@@ -36,6 +43,7 @@ static int read_bytes(struct reading *reading, size_t from, size_t end) {
   for (size_t at = from, part; at < end && result == KEFS_OK; at += part) {
     part = end - at < PART ? end - at : PART;
     result = read_at(reading, reading->altered == NULL ? view_at(reading, at) : reading->part, at, part);
+    note_used(reading, page_of(reading, at), page_of(reading, at + part - 1) + 1);
     if (reading->altered == NULL) continue;
     for (size_t done = 0, more; done < part && result == KEFS_OK; done += more) {
       more = PAGE - (reading->image->snapshot->before + at + done) % PAGE;
@@ -46,18 +54,30 @@ static int read_bytes(struct reading *reading, size_t from, size_t end) {
   return result;
 }
 
-/* Where the next bytes from `from` on begin that are no hole, or `end`. Where they end is kept, since some systems search long for it. */
+/* Where the next bytes from `from` on begin that are no hole, or `end`. Where they begin and end is kept, since some systems search long for it. */
 static off_t find_data(struct reading *reading, off_t from, off_t end) {
-  if (from < reading->data || reading->hole <= from) reading->data = next_data(reading->image->fd, from, MOST_BYTES, &reading->hole);
+  if (from < reading->begin || reading->hole <= from) reading->begin = from, reading->data = next_data(reading->image->fd, from, MOST_BYTES, &reading->hole);
   return reading->data >= end ? end : reading->data < from ? from : reading->data;
 }
 
-/* Of the copy's memory: the first page from `k` on that may hold other bytes than zeros, or `end`. */
-static size_t next_used(const struct reading *reading, size_t k, size_t end) {
+/* Eight bytes of the bits are looked at together. */
+size_t next_altered(const struct reading *reading, size_t k, size_t end) {
+  typedef uint64_t __attribute__((may_alias)) many_bits;
+  while (k < end && !bit_of(reading->altered, k)) k += k % 64 == 0 && *(const many_bits *)(reading->altered + k / 8) == 0 ? 64 : 1;
+  return k < end ? k : end;
+}
+
+/* Of the copy's memory the first page from `k` on that has bytes. Where it is is kept, since some systems search long for it. */
+static size_t find_used(struct reading *reading, size_t k) {
+  if (reading->clear <= k && k < reading->used) return reading->used;
   off_t data = lseek(reading->image->snapshot->memory, (off_t)(k * PAGE), SEEK_DATA);
-  size_t used = data >= 0 ? (size_t)data / PAGE : errno == ENXIO ? end : k;
-  while (reading->altered != NULL && k < used && k < end && !bit_of(reading->altered, k)) k += k % 8 == 0 && reading->altered[k / 8] == 0 ? 8 : 1;
-  return reading->altered == NULL || k > used ? used : k;
+  reading->clear = k, reading->used = data >= 0 ? (size_t)data / PAGE : errno == ENXIO ? SIZE_MAX : k;
+  return reading->used;
+}
+
+size_t next_used(struct reading *reading, size_t k, size_t end) {
+  size_t used = k < end ? find_used(reading, k) : end;
+  return reading->altered == NULL ? used : next_altered(reading, k, used < end ? used : end);
 }
 
 /* A hole of the file is zeros, also where bytes were: tools make holes of zeros that were written, and so change no byte. */
@@ -180,17 +200,54 @@ static int read_directory_page(struct reading *reading, uint32_t home) {
   return put(reading, (size_t)at, page, PAGE), KEFS_OK;
 }
 
+int has_other_place(const struct places *was, size_t *i, const struct place *now) {
+  while (*i < was->count && was->list[*i].home < now->home) ++*i;
+  return *i == was->count || was->list[*i].home != now->home || was->list[*i].sector != now->sector;
+}
+
+static int read_directory_pages(struct reading *reading, off_t first, off_t end) {
+  int result = KEFS_OK;
+  if (end > (off_t)reading->image->layout.directory_pages) end = reading->image->layout.directory_pages;
+  for (off_t home = first; home < end && result == KEFS_OK; home++) result = read_directory_page(reading, (uint32_t)home);
+  return result;
+}
+
+/* Those that a commit has named. */
+static int read_listed_directory(struct reading *reading, off_t list) {
+  off_t count, end = list + reading->image->layout.directory_pages;
+  int result = KEFS_OK;
+  for (off_t at = next_run(reading, list, list, &count); count > 0 && at < end && result == KEFS_OK; at = next_run(reading, list, at + count, &count))
+    result = read_directory_pages(reading, at - list, at - list + count);
+  return result;
+}
+
+/* Those that the last commit has changed stand in other slots, and earlier ones have named theirs. */
+static int read_changed_directory(struct reading *reading) {
+  const struct places *now = &reading->now;
+  int result = KEFS_OK;
+  size_t was = 0;
+  for (off_t state = reading->before + 1; state < reading->state && result == KEFS_OK; state++) result = read_listed_directory(reading, list_of(state));
+  for (size_t i = 0; i < now->count && now->list[i].home < reading->image->layout.directory_pages && result == KEFS_OK; i++)
+    if (has_other_place(&reading->was, &was, &now->list[i])) result = read_directory_page(reading, now->list[i].home);
+  return result;
+}
+
+/* Whether the view has the directory as it was before commits that tell what they have changed of it. */
+static int is_directory_told(const struct reading *reading) {
+  if (!reading->has_files || reading->before == 0) return 0;
+  return reading->state - reading->before <= 1 || tells_directory(reading->image);
+}
+
 /* The files of a turn may be others than those of the turn before, and the image longer. What is read goes by them only where they lie in it. */
 static int read_pool_directory(struct reading *reading) {
   struct kefs_image *image = reading->image;
-  int result = KEFS_OK;
   image->stat.pages = home_pages(image);
-  for (uint32_t home = 0; home < image->layout.directory_pages && result == KEFS_OK; home++) result = read_directory_page(reading, home);
+  int result = is_directory_told(reading) ? read_changed_directory(reading) : read_directory_pages(reading, 0, image->layout.directory_pages);
   if (result != KEFS_OK || reading->has_files) return result;
   struct finding finding = check_image(image);
   if (finding.result != KEFS_OK) return fail(image, finding.result, "%s", finding.words);
   read_directory(image);
-  reading->has_files = 1, reading->is_looked_at = 0;
+  reading->has_files = reading->has_new_files = 1, reading->is_looked_at = 0;
   return KEFS_OK;
 }
 
@@ -207,22 +264,16 @@ int begin_anew(struct reading *reading) {
   return reading->file = 0, reading->done = 0, KEFS_OK;
 }
 
-/* Whether a page stands in another slot than in the turn before. Pages are asked for in the order of their homes. */
-static int has_other_slot(const struct places *was, size_t *i, const struct place *now) {
-  while (*i < was->count && was->list[*i].home < now->home) ++*i;
-  return *i == was->count || was->list[*i].home != now->home || was->list[*i].sector != now->sector;
-}
-
 /* Reads what the last commit has changed: where that is too much for a turn, all is read anew, from this turn on. */
 static int read_changed(struct reading *reading) {
   const struct places *now = &reading->now;
   size_t changed = 0, was = 0;
-  for (size_t i = 0; i < now->count; i++) changed += (size_t)has_other_slot(&reading->was, &was, &now->list[i]);
+  for (size_t i = 0; i < now->count; i++) changed += (size_t)has_other_place(&reading->was, &was, &now->list[i]);
   if (changed > MOST_CHANGED) return begin_anew(reading);
   int result = KEFS_OK;
   was = 0;
   for (size_t i = 0; i < now->count && result == KEFS_OK; i++)
-    if (has_other_slot(&reading->was, &was, &now->list[i])) result = read_place(reading, &now->list[i]);
+    if (has_other_place(&reading->was, &was, &now->list[i])) result = read_place(reading, &now->list[i]);
   return result;
 }
 
@@ -265,7 +316,9 @@ static int read_told(struct reading *reading) {
 static off_t home_bytes(const struct file *file) { return file->present ? (off_t)(PAGE * pages_of(file->length)) : 0; }
 
 int is_read(struct reading *reading) {
-  while (reading->file < KEFS_FILES && reading->done >= home_bytes(&reading->image->files[reading->file])) reading->file++, reading->done = 0;
+  const struct kefs_image *image = reading->image;
+  while (reading->file < KEFS_FILES && reading->done >= home_bytes(&image->files[reading->file]))
+    reading->file = next_number(&image->present, reading->file + 1), reading->done = 0;
   return reading->file == KEFS_FILES;
 }
 
@@ -351,5 +404,6 @@ static int use_pool_turn(struct reading *reading, int is_told) {
 int use_turn(struct reading *reading) {
   int is_told = reading->state != 0 && reading->before != 0 && reading->state != reading->before;
   clock_gettime(CLOCK_REALTIME, &reading->began);
+  reading->begin = reading->data;
   return reading->image->layout.blocks == 0 ? use_journal_turn(reading, is_told) : use_pool_turn(reading, is_told);
 }

@@ -673,14 +673,20 @@ static void a_bad_journal_is_refused(void) {
 }
 
 static void bad_files_are_not_formatted(void) {
-  struct kefs_file files[65] = {{1, 0, NULL}};
+  static struct kefs_file files[KEFS_FILES + 1] = {{1, 0, NULL}};
   unlink(path);
-  RETURNS(EINVAL, kefs_format(path, 0600, files, 65));
+  RETURNS(EINVAL, kefs_format(path, 0600, files, KEFS_FILES + 1));
   files[0].flags = 8;
   RETURNS(EINVAL, kefs_format(path, 0600, files, 1));
+  files[0] = (struct kefs_file){LONGEST + 1, KEFS_FILE_SPARSE, NULL};
+  RETURNS(EFBIG, kefs_format(path, 0600, files, 1));
+  files[0].length = LONGEST; /* with the directory over 2^30 pages */
+  RETURNS(EFBIG, kefs_format(path, 0600, files, 1));
+  files[0].length = UINT64_MAX;
+  RETURNS(EFBIG, kefs_format(path, 0600, files, 1));
   CHECK(access(path, F_OK) != 0);
-  files[0].flags = 0;
-  DONE(kefs_format(path, 0600, files, 64));
+  files[0] = (struct kefs_file){1, 0, NULL};
+  DONE(kefs_format(path, 0600, files, KEFS_FILES));
   RETURNS(EEXIST, kefs_format(path, 0600, files, 1));
   RETURNS(ENOENT, kefs_format("no/such", 0600, files, 1));
 }

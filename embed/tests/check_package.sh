@@ -31,7 +31,7 @@ LD_LIBRARY_PATH="$staged$libdir" "$work/shared" "$work/shared.img"
 ${CC:-cc} -Wall -Wextra -Werror -o "$work/static" "$work/try.c" $(pkg-config --cflags kefs) "$staged$libdir/libkefs.a" -pthread
 "$work/static" "$work/static.img"
 cmp "$work/shared.img" "$work/static.img"
-nm -D --defined-only "$staged$libdir/libkefs.so.1" | awk '$2 == "T" { print $3 }' | sed 's/@.*//' | sort > "$work/shared.names"
+nm -D --defined-only "$staged$libdir/libkefs.so.2" | awk '$2 == "T" { print $3 }' | sed 's/@.*//' | sort > "$work/shared.names"
 nm --defined-only --extern-only "$staged$libdir/libkefs.a" | awk 'NF == 3 { print $3 }' | sort > "$work/static.names"
 grep -o 'kefs_[a-z_]*(' "$here/kefs.h" | tr -d '(' | sort -u > "$work/header.names"
 cmp "$work/shared.names" "$work/header.names"
@@ -51,17 +51,17 @@ if command -v dpkg-deb > /dev/null; then
   mkdir "$work/unpacked"
   for package in "$here"/out/*.deb; do dpkg-deb -x "$package" "$work/unpacked/$(basename "$package" | sed 's/_.*//')"; done
   cd "$work/unpacked"
-  test -f "$(find libkefs -name libkefs.so.1)" && test -f kefs-dev/usr/include/kefs.h && test -z "$(find libkefs -name '*.[ah]')"
-  if readelf -S "$(find libkefs -name libkefs.so.1)" | grep -q debug_info; then echo "check_package: libkefs.so.1 is not stripped"; exit 1; fi
+  test -f "$(find libkefs -name libkefs.so.2)" && test -f kefs-dev/usr/include/kefs.h && test -z "$(find libkefs -name '*.[ah]')"
+  if readelf -S "$(find libkefs -name libkefs.so.2)" | grep -q debug_info; then echo "check_package: libkefs.so.2 is not stripped"; exit 1; fi
   test "$(find libkefs-dbg -name '*.debug' | wc -l)" -ge 4
   cd "$here"
 fi
 lto="-O2 -flto"
 rm -f "$here"/out/*.o # so that all is built with these flags, and then without them
-${MAKE:-make} -s out/libkefs.a out/libkefs.so.1 out/kefscheck CFLAGS="$lto" LDFLAGS="$lto" > "$work/lto.log" 2>&1 || { cat "$work/lto.log"; exit 1; }
+${MAKE:-make} -s out/libkefs.a out/libkefs.so.2 out/kefscheck CFLAGS="$lto" LDFLAGS="$lto" > "$work/lto.log" 2>&1 || { cat "$work/lto.log"; exit 1; }
 # shellcheck disable=SC2086
 ${CC:-cc} $lto -o "$work/whole" "$work/try.c" -I"$here" "$here/out/libkefs.a" -pthread
 "$work/whole" "$work/whole.img"
 rm -f "$here"/out/*.o
-${MAKE:-make} -s out/libkefs.a out/libkefs.so.1 out/kefscheck > "$work/again.log"
+${MAKE:-make} -s out/libkefs.a out/libkefs.so.2 out/kefscheck > "$work/again.log"
 echo "check_package: both libraries, kefsrun and the manual pages are whole"

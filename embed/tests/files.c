@@ -41,7 +41,8 @@ static void calls_by_number_have_their_results(void) {
   RETURNS(KEFS_BAD_ARGUMENT, kefs_remove_file(NULL, 2));
   RETURNS(EINVAL, kefs_add_file(image, 64, 0));
   RETURNS(EEXIST, kefs_add_file(image, 1, 0));
-  RETURNS(EFBIG, kefs_add_file(image, 2, (size_t)UINT32_MAX + 1));
+  RETURNS(EFBIG, kefs_add_file(image, 2, LONGEST + 1));
+  RETURNS(EINVAL, kefs_add_file(image, KEFS_FILES, 0));
   RETURNS(KEFS_NO_FILE, kefs_remove_file(image, 2));
   RETURNS(KEFS_NO_FILE, kefs_remove_file(image, 64));
   RETURNS(KEFS_READ_ONLY, kefs_remove_file(image, 1));

@@ -5,7 +5,8 @@ to be bad."""
 import ctypes as c, random, sys
 from images import new_pool_image, standing_homes
 
-ROOM, PAGE, FILES, SPARE = 16384, 4096, 8, 60
+ROOM, PAGE, SPARE, DIRECTORY = 16384, 4096, 60, 5
+FILES = (0, 1, 2, 3, 15, 16, 63, 64, 79)  # by their numbers, of the 80 that such a directory has places for
 WRITE, SYNC, LENT, COPY = 1, 2, 3, 4
 BAD_PAGES, READ_ONLY, NO_HOMES = 4, 5, 9
 
@@ -19,11 +20,11 @@ class Plan(c.Structure):
 
 
 class Page(c.Structure):
-    _fields_ = [("file", c.c_uint8), ("page", c.c_uint32)]
+    _fields_ = [("file", c.c_uint16), ("page", c.c_uint32)]
 
 
 class Size(c.Structure):
-    _fields_ = [("file", c.c_uint32), ("is_there", c.c_uint32), ("length", c.c_uint32)]
+    _fields_ = [("file", c.c_uint32), ("is_there", c.c_uint32), ("length", c.c_uint64)]
 
 
 class Bytes(c.Structure):
@@ -44,7 +45,7 @@ def pages_of(length):
 def files_of(image):
     """The files of an image, by their numbers, as docs/FORMATS.md has them."""
     homes, files = standing_homes(image), {}
-    for f in range(64):
+    for f in range(16 * DIRECTORY):
         entry = homes[256 * f : 256 * f + 256]
         if not number(entry, 0) & 1:
             continue
@@ -124,7 +125,7 @@ def stops(image, calls, before, after):
 def wanted(files):
     """Sizes, pages that are written too, and what the files are then."""
     sizes, after = [], dict(files)
-    for f in sorted(random.sample(range(FILES), random.randint(0, 3))):
+    for f in sorted(random.sample(FILES, random.randint(0, 3))):
         length = None if random.random() < 0.15 else random.choice([0, 1, PAGE, 5000, 3 * PAGE, random.randrange(70000)])
         sizes.append((f, length))
         if length is None:
@@ -148,7 +149,7 @@ def put(after, written):
 
 random.seed(2)
 kinds, bad, tried, refused, is_control = [], 0, 0, 0, sys.argv[3:] == ["control"]
-image = new_pool_image([20000, 9000, 1], blocks=1) + random.randbytes(PAGE * SPARE)
+image = new_pool_image([20000, 9000, 1], blocks=1, directory=DIRECTORY) + random.randbytes(PAGE * SPARE)
 for _ in range(int(sys.argv[2])):
     files = files_of(image)
     sizes, pages, new, after = wanted(files)

@@ -451,7 +451,7 @@ static unsigned long syncs_of_growth(size_t pages) {
 
 static void few_new_pages_take_no_sync_more(void) {
   begin_with(PAGE, 1, 0);
-  CHECK(syncs_of_growth(1) == 2 && syncs_of_growth(64) == 2 && syncs_of_growth(65) == 3);
+  CHECK(syncs_of_growth(1) == 2 && syncs_of_growth(128) == 2 && syncs_of_growth(129) == 3);
   DONE(kefs_close(image));
 }
 

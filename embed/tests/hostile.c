@@ -526,8 +526,8 @@ static void a_failed_opening_has_words_of_its_thread(void) {
   RETURNS(ENOENT, kefs_open(&image, "missing.img", 0));
   CHECK(strstr(kefs_errmsg(NULL), "missing.img: No such file") != NULL);
   CHECK(pthread_create(&thread, NULL, other_message, NULL) == 0 && pthread_join(thread, NULL) == 0);
-  RETURNS(EINVAL, kefs_format(PATH, 0600, NULL, 65));
-  CHECK(strstr(kefs_errmsg(NULL), "65 files") != NULL);
+  RETURNS(EINVAL, kefs_format(PATH, 0600, NULL, 4097));
+  CHECK(strstr(kefs_errmsg(NULL), "4097 files") != NULL);
 }
 
 static void what_has_not_failed_recovers(void) {

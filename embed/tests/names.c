@@ -3,66 +3,10 @@
 #define _GNU_SOURCE
 #define PROGRAM "names"
 #include "files_tests.h"
-#include <errno.h>
+#include "power.h"
 #include <pthread.h>
-#include <sys/syscall.h>
-#include <sys/uio.h>
 
-enum { LONGEST = RECORD - 1 };
-
-/* The device: calls that the library makes of the image, of which one may fail, or be the last before power is cut. */
-
-enum { MOST_UNSYNCED = 4096, SECTOR = 512, IS_CUT = SIGKILL /* what wait(2) says of the process */ };
-static struct unsynced { int fd; off_t at; unsigned char before[SECTOR]; } unsynced[MOST_UNSYNCED];
-static size_t unsynced_count;
-static int is_armed, is_failing; /* calls count; and the last one of them fails, and power is not cut */
-static long calls, last_call;
-
-/* Of what was not synced some sectors have reached the disk. */
-static void cut_power(void) {
-  for (size_t i = unsynced_count; i-- > 0;)
-    if (random() % 2 == 0) syscall(SYS_pwrite64, unsynced[i].fd, unsynced[i].before, SECTOR, unsynced[i].at);
-  raise(SIGKILL);
-}
-
-static int fails(void) {
-  if (!is_armed || ++calls != last_call) return 0;
-  if (!is_failing) cut_power();
-  return errno = EIO, 1;
-}
-
-static void note_write(int fd, off_t at, size_t length) {
-  for (size_t done = 0; done < length && is_armed; done += SECTOR) {
-    struct unsynced *it = &unsynced[unsynced_count++];
-    CHECK(unsynced_count < MOST_UNSYNCED);
-    *it = (struct unsynced){.fd = fd, .at = at + (off_t)done};
-    CHECK(pread(fd, it->before, SECTOR, it->at) >= 0);
-  }
-}
-
-ssize_t pwritev(int fd, const struct iovec *parts, int count, off_t at) {
-  ssize_t made = 0;
-  if (fails()) return -1;
-  for (const struct iovec *part = parts; part < parts + count; at += (off_t)part++->iov_len) {
-    note_write(fd, at, part->iov_len);
-    ssize_t length = syscall(SYS_pwrite64, fd, part->iov_base, part->iov_len, at);
-    if (length < 0) return -1;
-    made += length;
-  }
-  return made;
-}
-
-ssize_t pwrite(int fd, const void *from, size_t length, off_t at) { return pwritev(fd, &(struct iovec){(void *)(uintptr_t)from, length}, 1, at); }
-
-/* What is made durable is seen after the cut alone, and no test waits for a disk. */
-int fdatasync(int fd) {
-  (void)fd;
-  if (fails()) return -1;
-  unsynced_count = 0;
-  return 0;
-}
-
-int fsync(int fd) { return fdatasync(fd); }
+enum { LONGEST_NAME = RECORD - 1 };
 
 /* Images */
 
@@ -135,7 +79,7 @@ static void calls_by_name_have_their_results(void) {
   RETURNS(KEFS_BAD_ARGUMENT, kefs_create_file(NULL, "a", 0, &file));
   RETURNS(EINVAL, kefs_create_file(image, "", 0, &file));
   RETURNS(ENAMETOOLONG, kefs_create_file(image, long_name, 0, &file));
-  RETURNS(EFBIG, kefs_create_file(image, "a", (size_t)UINT32_MAX + 1, &file));
+  RETURNS(EFBIG, kefs_create_file(image, "a", LONGEST + 1, &file));
   RETURNS(KEFS_BAD_ARGUMENT, kefs_lookup(image, "a", NULL));
   RETURNS(KEFS_NO_FILE, kefs_lookup(image, "a", &file));
   RETURNS(ENAMETOOLONG, kefs_lookup(image, long_name, &file));
@@ -145,7 +89,7 @@ static void calls_by_name_have_their_results(void) {
   RETURNS(KEFS_BAD_ARGUMENT, kefs_name_at(image, 1, NULL));
   for (unsigned f = 0; f < 66; f++) RETURNS(KEFS_NO_FILE, kefs_name_at(image, f, &name));
   CHECK(file == 99);
-  long_name[LONGEST] = 0;
+  long_name[LONGEST_NAME] = 0;
   CHECK(create(long_name, 3) == 1 && create("a", 0) == 2);
   RETURNS(EEXIST, kefs_create_file(image, "a", 0, &file));
   RETURNS(EINVAL, kefs_rename(image, "a", ""));
@@ -270,7 +214,7 @@ static void damaged_names_count_for_nothing(void) {
   struct kefs_file files[5] = {{NAMES_LENGTH, 0, records}, {1, 0, NULL}, {2, 0, NULL}, {3, 0, NULL}, {4, 0, NULL}};
   const char *name;
   strcpy(records[0], "kefs names 1"), strcpy(records[1], "same"), strcpy(records[2], "same"), strcpy(records[4], "good"), strcpy(records[9], "gone");
-  memset(records[3], 'x', RECORD), records[5][7] = 1;
+  memset(records[3], 'x', RECORD), records[5][7] = 1, records[4][100] = 1;
   unlink(PATH);
   DONE(kefs_format(PATH, 0600, files, 5));
   for (int round = 0; round < 3; round++) {

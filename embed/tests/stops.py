@@ -16,7 +16,7 @@ class Plan(c.Structure):
 
 
 class Page(c.Structure):
-    _fields_ = [("file", c.c_uint8), ("page", c.c_uint32)]
+    _fields_ = [("file", c.c_uint16), ("page", c.c_uint32)]
 
 
 class Bytes(c.Structure):

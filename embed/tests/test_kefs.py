@@ -75,7 +75,32 @@ class Images(unittest.TestCase):
             kefs.open(self.path + "9", create=[1], pool=2064385)
         self.assertEqual(caught.exception.errno, errno.EINVAL)
         self.assertRaises(FileExistsError, kefs.format, self.path, [1])
-        self.assertRaises(ValueError, kefs.format, self.path + "2", [1 << 32])
+        self.assertRaises(ValueError, kefs.format, self.path + "2", [(1 << 42) + 1])
+
+    def test_a_directory_has_the_places_that_were_asked_for(self):
+        for number, (places, count, pages) in enumerate(((0, 2, 4), (1, 2, 1), (16, 17, 2), (65, 2, 5), (0, 65, 5), (4096, 2, 256), (0, 4096, 256))):
+            path, files = self.path + str(number), [1 + f % 2 for f in range(count)]
+            with kefs.open(path, create=files, places=places) as image:
+                for file in {16 * pages - 1} - {count - 1}:
+                    image.add_file(file)
+                with self.assertRaises(OSError) as caught:
+                    image.add_file(16 * pages)
+                self.assertEqual((image.stat()["files"], caught.exception.errno), (count + (count < 16 * pages), errno.EINVAL))
+            self.assertEqual(content(path), new_pool_image(files, directory=pages))
+        with self.assertRaises(OSError) as caught:
+            kefs.open(self.path, create=[1], places=4097)
+        self.assertEqual((caught.exception.errno, os.path.exists(self.path)), (errno.EINVAL, False))
+
+    def test_files_that_were_added_are_found_again(self):
+        files = [8192, kefs.File(1, grows=True)]
+        for run in range(3):
+            with kefs.open(self.path, create=files) as image, image.transaction():
+                self.assertEqual(image.stat()["files"], 2 + run)
+                image.resize(1, 100 + run), image.add_file(2 + run, 10)
+        self.assertRaises(kefs.OtherFiles, kefs.open, self.path, create=[*files, 10, 11])
+        with kefs.open(self.path) as image, image.transaction():
+            image.remove_file(0)
+        self.assertRaises(kefs.OtherFiles, kefs.open, self.path, create=files)
 
     def test_a_new_image_is_that_of_pagefmt(self):
         if not PAGEFMT:
@@ -371,7 +396,7 @@ class Images(unittest.TestCase):
         with open(self.path + "2", "wb") as file:
             file.write(b"no image")
         self.assertRaises(kefs.NotImage, kefs.open, self.path + "2")
-        self.assertEqual(kefs.version() // 1000000, 1)
+        self.assertEqual(kefs.version() // 1000000, 2)
 
     def test_a_closed_view_is_refused(self):
         image = self.opened()
@@ -433,16 +458,16 @@ class Images(unittest.TestCase):
 
     def test_an_opening_makes_an_image(self):
         for _ in range(2):
-            with kefs.open(self.path, create=[5, kefs.File(1 << 30, sparse=True)]) as image, image.transaction():
+            with kefs.open(self.path, create=[5, kefs.File(5 << 30, sparse=True)]) as image, image.transaction():
                 image.map(0)[0] += 1
         self.assertLess(os.stat(self.path).st_blocks * 512, 8 << 20)
         with kefs.open(self.path) as image:
-            self.assertEqual((image.map(0)[0], image.length(1)), (2, 1 << 30))
+            self.assertEqual((image.map(0)[0], image.length(1)), (2, 5 << 30))
             with self.assertRaises(kefs.Busy) as caught:
                 kefs.open(self.path, wait=20)
             self.assertIn("this thread has", str(caught.exception))
         with self.assertRaises(kefs.OtherFiles):
-            kefs.open(self.path, create=[6, kefs.File(1 << 30, sparse=True)])
+            kefs.open(self.path, create=[6, kefs.File(5 << 30, sparse=True)])
 
     def test_layout_3_is_not_opened(self):
         for before in images_of_3([2 * 4096], {1: b"j" * 4096}):
@@ -627,7 +652,7 @@ class Checks(unittest.TestCase):
         later = ["file 0: 8192 bytes, 2 pages from home 4 on", "file 1: 5000 bytes, 2 pages from home 6 on, read-only", "file 2: 0 bytes, 0 pages"]
         journals = ["journal: open, 2 pages"] + [f"pool: map {it} of two, 2 pages in 4032 slots" for it in (0, 1)]
         for image, layout, journal in zip(images, LIVE_LAYOUTS, journals):
-            homes, told = ("8 pages, 0 of them free", later) if layout == 4 else ("4 pages", files)
+            homes, told = ("8 pages, 0 of them free, places for 64 files", later) if layout == 4 else ("4 pages", files)
             self.assertEqual(self.told_of(image), (0, [f"layout: {layout}, {homes}", *told, journal, "would open: yes"]))
             self.assertEqual(self.told("dump", self.path, "0"), (0, bytes(4096) + b"j" * 4096, ""))
             self.assertEqual(self.told("dump", self.path, "1"), (0, bytes(4096) + b"k" * 904, ""))
@@ -653,7 +678,7 @@ class Checks(unittest.TestCase):
                 self.assertEqual((status, error, os.path.exists(new)), (1, f"kefscheck: {self.path}: it has layout 4 already\n", False))
                 continue
             self.assertEqual((status, lines, error, os.stat(new).st_mode & 0o777), (0, b"", "", 0o640))
-            told = ["layout: 4, 8 pages, 0 of them free", *later, "pool: map 0 of two, 0 pages in 4032 slots", "would open: yes"]
+            told = ["layout: 4, 8 pages, 0 of them free, places for 64 files", *later, "pool: map 0 of two, 0 pages in 4032 slots", "would open: yes"]
             self.assertEqual(self.told(new)[1].decode().splitlines()[1:], told)
             self.assertEqual(self.told("dump", new, "0"), (0, bytes(4096) + b"j" * 4096, ""))
             self.assertEqual(self.told("dump", new, "1"), (0, bytes(4096) + b"k" * 904, ""))
@@ -704,7 +729,8 @@ class Checks(unittest.TestCase):
             (directory + 4, b"\37"): "entry 0 of the directory has over 30 extents",
             (directory + 4, b"\0"): "file 0 has more pages than homes",
             (directory + 9, b"\x30"): "file 0 has more pages than homes",
-            (directory + 12, b"\1"): "file 0 has a length of over four bytes",
+            (directory + 12, b"\1"): "file 0 has more pages than homes",
+            (directory + 13, b"\4"): "file 0 has over 2^42 bytes",
             (directory + 16, b"\7"): "file 0 does not end within the image",
             (directory + 20, b"\3"): "files 0 and 1 share a page",
             (directory + 256 * 10 + 255, b"\1"): "entry 10 of the directory is of no file, and not zero",
@@ -724,7 +750,7 @@ class Checks(unittest.TestCase):
         image = with_pool(bytes(image), {5: b"x" * 4096, 31: b"y" * 4096}, opened=False)
         wanted = b"A" * 4096 + b"B" * 4096 + b"x" * 4096 + b"D" * 4096 + b"E" * 4096 + b"y" * 4086
         extents = ", ".join(f"from home {it} on" for it, _ in pieces)
-        told = ["layout: 4, 54 pages, 44 of them free", f"file 0: 24566 bytes, 6 pages {extents}"]
+        told = ["layout: 4, 54 pages, 44 of them free, places for 64 files", f"file 0: 24566 bytes, 6 pages {extents}"]
         self.assertEqual((self.told_of(image)[0], self.told_of(image)[1][:2]), (0, told))
         self.assertEqual(self.told("dump", self.path, "0"), (0, wanted, ""))
         for flags in (kefs.RDONLY, kefs.LAZY, kefs.SNAPSHOT, kefs.TRACK_SIGNAL):
@@ -754,6 +780,14 @@ class Checks(unittest.TestCase):
         status, _, words = self.told("upgrade", self.path, self.path + "2")
         kind = "the image's journal has a map that no commit writes" if is_journal else "the file has no layout of a store"
         self.assertEqual((status, os.path.exists(self.path + "2"), f": {reason}" in words, words.endswith(f": {kind}\n")), (1, False, True, True), words)
+
+    def test_names_are_told(self):
+        with kefs.open(self.path, names=True) as image:
+            image.create_file("a", 8192), image.create_file(b"b\n\"\xc3\xa4", 1), image.add_file(9, 3)
+            image.commit()
+        told = self.told(self.path)[1].decode().splitlines()[1:]
+        files = [line.split(":")[0] for line in told if line.startswith("file")]
+        self.assertEqual((files, told[-1]), (["file 0 (names)", 'file 1 "a"', 'file 2 "b\\x0a\\x22\u00e4"', "file 9"], "would open: yes"))
 
     def test_other_words(self):
         self.assertEqual(self.told()[0], 2)

@@ -10,6 +10,8 @@
 #include <sys/stat.h>
 #include <unistd.h>
 
+static const uint64_t LONGEST = (uint64_t)1 << 42; /* bytes of a file at most */
+
 /* Of a new image of layout 4: the blocks of a map, the pages of the directory, and the sectors before its homes. */
 enum { MAP_BLOCKS = 4, DIRECTORY_PAGES = 4, POOL_FRONT = 16 + 8080 * MAP_BLOCKS, BODY_PAGES = 504 * MAP_BLOCKS };
 

@@ -292,8 +292,9 @@ static void bad_lengths_are_refused(void) {
   RETURNS(KEFS_BAD_ARGUMENT, kefs_resize(NULL, 0, 1));
   RETURNS(KEFS_NO_FILE, kefs_resize(image, 3, 1));
   RETURNS(KEFS_NO_FILE, kefs_resize(image, 64, 1));
+  RETURNS(KEFS_NO_FILE, kefs_resize(image, KEFS_FILES, 1));
   RETURNS(KEFS_READ_ONLY, kefs_resize(image, 2, 1));
-  RETURNS(EFBIG, kefs_resize(image, 0, (size_t)1 << 32));
+  RETURNS(EFBIG, kefs_resize(image, 0, LONGEST + 1));
   RETURNS(KEFS_BAD_ARGUMENT, kefs_map_growing(image, 1, NULL, PAGE, NULL, NULL));
   RETURNS(KEFS_NO_FILE, kefs_map_growing(image, 3, NULL, PAGE, &at, NULL));
   RETURNS(EINVAL, kefs_map_growing(image, 1, a + 1, PAGE, &at, NULL));
@@ -301,7 +302,7 @@ static void bad_lengths_are_refused(void) {
   RETURNS(EEXIST, kefs_map_growing(image, 0, a + PAGE, PAGE, &at, NULL));
   DONE(kefs_resize(image, 0, 3 * PAGE));
   CHECK(written() == 0 && committed() == 0 && facts().commits == 0);
-  DONE(kefs_map_growing(image, 1, NULL, (size_t)1 << 40, &at, NULL));
+  DONE(kefs_map_growing(image, 1, NULL, (size_t)1 << 35, &at, NULL));
   DONE(kefs_close(image));
   DONE(kefs_open(&image, PATH, KEFS_RDONLY));
   RETURNS(KEFS_READ_ONLY, kefs_resize(image, 0, 1));
