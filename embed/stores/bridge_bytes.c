@@ -17,7 +17,7 @@
 static int flags_for(int fd, int wrong) {
   int flags = fcntl(fd, F_GETFL);
   if (flags < 0 || flags & O_PATH || (flags & O_ACCMODE) == wrong) return fail(EBADF);
-  return answers() == 0 ? flags : -1;
+  return answers(fd) == 0 ? flags : -1;
 }
 static int flags_to_read(int fd) { return flags_for(fd, O_WRONLY); }
 static int flags_to_write(int fd) { return flags_for(fd, O_RDONLY); }
@@ -34,28 +34,54 @@ static int covers_data(const void *at, size_t bytes) {
 
 static void *refuse_map(const char *what, int number) { return refuse(what, number), MAP_FAILED; }
 
-void *mmap(void *wanted, size_t bytes, int prot, int flags, int fd, off_t offset) {
-  if (flags & MAP_ANONYMOUS || !is_data(fd)) {
-    if (flags & MAP_FIXED && covers_data(wanted, bytes) && !is_inside) return refuse_map("a mapping over its own", ENOTSUP);
-    return NEXT(mmap)(wanted, bytes, prot, flags, fd, offset);
-  }
+static size_t whole_pages(size_t bytes) { return (bytes + KEFS_PAGE - 1) / KEFS_PAGE * KEFS_PAGE; }
+
+static void *map_data_file(size_t bytes, int prot, int flags, int fd, off_t offset) {
   int mode = flags_to_read(fd);
   if (mode < 0) return errno = errno == EBADF ? EACCES : errno, MAP_FAILED;
   if (flags & (MAP_FIXED | MAP_FIXED_NOREPLACE)) return refuse_map("a mapping at a fixed address", ENOTSUP);
   if (!(flags & MAP_SHARED)) return refuse_map("a private mapping", ENOTSUP);
   if (prot & PROT_WRITE && (mode & O_ACCMODE) != O_RDWR) return errno = EACCES, MAP_FAILED;
   if (bytes == 0 || offset < 0 || offset % KEFS_PAGE != 0) return errno = EINVAL, MAP_FAILED;
-  if ((size_t)offset > data.room || bytes > data.room - (size_t)offset) return refuse_map("a mapping of over a TiB", ENOMEM);
+  if ((size_t)offset > data.room || bytes > data.room - (size_t)offset) return refuse_map("a mapping of so many bytes", ENOMEM);
   if (offset == 0) data.mapped = bytes;
+  data.in_use += whole_pages(bytes);
+  if (data.end < (size_t)offset + bytes) data.end = (size_t)offset + bytes;
+  data.is_stored_to |= (prot & PROT_WRITE) != 0;
   return data.base + offset;
+}
+
+void *mmap(void *wanted, size_t bytes, int prot, int flags, int fd, off_t offset) {
+  if (flags & MAP_ANONYMOUS || !is_data(fd)) {
+    if (flags & MAP_FIXED && covers_data(wanted, bytes) && !is_inside) return refuse_map("a mapping over its own", ENOTSUP);
+    return NEXT(mmap)(wanted, bytes, prot, flags, fd, offset);
+  }
+  pthread_mutex_lock(&lock);
+  void *at = map_data_file(bytes, prot, flags, fd, offset);
+  pthread_mutex_unlock(&lock);
+  return at == MAP_FAILED && is_to_repeat(-1) ? mmap(wanted, bytes, prot, flags, fd, offset) : at;
 }
 void *mmap64(void *wanted, size_t bytes, int prot, int flags, int fd, off_t offset) { return mmap(wanted, bytes, prot, flags, fd, offset); }
 
+/* Takes note that the program has so many bytes of its mappings no more. Several may be of the same bytes: all have the same addresses. */
+static void unmap_pages(size_t bytes) {
+  pthread_mutex_lock(&lock);
+  data.in_use -= whole_pages(bytes) < data.in_use ? whole_pages(bytes) : data.in_use;
+  if (data.in_use == 0) data.end = 0, data.is_stored_to = 0;
+  pthread_mutex_unlock(&lock);
+}
+
 /* All has its addresses already, so a mapping grows and shrinks where it is. */
-static void *remap(void *at, size_t to, int flags) {
+static void *remap(void *at, size_t bytes, size_t to, int flags) {
+  size_t offset = (size_t)((unsigned char *)at - data.base);
   if (flags & ~MREMAP_MAYMOVE) return refuse_map("mremap to elsewhere", ENOTSUP);
-  if (to > data.room - (size_t)((unsigned char *)at - data.base)) return refuse_map("a mapping of over a TiB", ENOMEM);
-  if (at == (void *)data.base) data.mapped = to;
+  if (to > data.room - offset) return refuse_map("a mapping of so many bytes", ENOMEM);
+  if (offset == 0) data.mapped = to;
+  pthread_mutex_lock(&lock);
+  data.in_use += whole_pages(to);
+  if (data.end < offset + to) data.end = offset + to;
+  pthread_mutex_unlock(&lock);
+  unmap_pages(bytes);
   return at;
 }
 
@@ -64,14 +90,16 @@ void *mremap(void *at, size_t bytes, size_t to, int flags, ...) {
   va_start(rest, flags);
   void *wanted = flags & MREMAP_FIXED ? va_arg(rest, void *) : NULL;
   va_end(rest);
-  if (in_data(at)) return bytes == 0 ? refuse_map("a second mapping by mremap", ENOTSUP) : to == 0 ? (errno = EINVAL, MAP_FAILED) : remap(at, to, flags);
+  if (in_data(at)) return bytes == 0 ? refuse_map("a second mapping by mremap", ENOTSUP) : to == 0 ? (errno = EINVAL, MAP_FAILED) : remap(at, bytes, to, flags);
+  if (is_shared_former(at, bytes)) return refuse_map("mremap of one of several mappings that it had", ENOMEM);
   if (covers_data(at, bytes) || (wanted != NULL && covers_data(wanted, to))) return refuse_map("mremap over its mapping", ENOTSUP);
   return NEXT(mremap)(at, bytes, to, flags, wanted);
 }
 
 /* The library keeps the file mapped. */
 int munmap(void *at, size_t bytes) {
-  if (in_data(at)) return 0;
+  if (in_data(at)) return is_inside ? 0 : (unmap_pages(bytes), 0);
+  if (!is_inside && unmap_former(at, bytes)) return 0;
   return covers_data(at, bytes) ? refuse("munmap of more than its mapping", EINVAL) : NEXT(munmap)(at, bytes);
 }
 
@@ -80,17 +108,27 @@ int madvise(void *at, size_t bytes, int advice) { return in_data(at) && !is_insi
 
 /* Syncs */
 
+/* Of a lent file it is not known whether the mapping is one of it. */
+static int sync_other(void *at, size_t bytes, int flags) {
+  int result = NEXT(msync)(at, bytes, flags);
+  return result == 0 && data.is_lent && flags & MS_SYNC && commit_at != AT_FSYNC ? commit() : result;
+}
+
 int msync(void *at, size_t bytes, int flags) {
-  if (!in_data(at)) return NEXT(msync)(at, bytes, flags);
+  if (!in_data(at)) return sync_other(at, bytes, flags);
   int is_whole = at == data.base && bytes >= data.mapped;
   if (!(flags & MS_SYNC) || commit_at == AT_FSYNC || (commit_at == AT_PART && is_whole)) return 0;
   return commit();
 }
 
-static int commit_of(void) { return answers() != 0 ? -1 : commit(); }
-int fsync(int fd) { return is_data(fd) ? commit_of() : NEXT(fsync)(fd); }
-int fdatasync(int fd) { return is_data(fd) ? commit_of() : NEXT(fdatasync)(fd); }
-int syncfs(int fd) { return is_data(fd) ? commit_of() : NEXT(syncfs)(fd); }
+/* What the descriptor had before it was another file needs no sync. */
+static int commit_of(int fd) {
+  if (answers(fd) != 0) return is_to_repeat(-1) ? 0 : -1;
+  return commit();
+}
+int fsync(int fd) { return is_synced(fd) ? commit_of(fd) : NEXT(fsync)(fd); }
+int fdatasync(int fd) { return is_synced(fd) ? commit_of(fd) : NEXT(fdatasync)(fd); }
+int syncfs(int fd) { return is_synced(fd) ? commit_of(fd) : NEXT(syncfs)(fd); }
 void sync(void) {
   commit_own();
   NEXT(sync)();
@@ -98,14 +136,31 @@ void sync(void) {
 
 /* Reads */
 
-/* Copies bytes of the file: how many there were. */
-static size_t copy_from(off_t at, void *to, size_t bytes) {
-  pthread_rwlock_rdlock(&copying);
+static ssize_t copy_locked(off_t at, void *to, size_t bytes) {
+  if (is_another()) return fail(ESTALE);
   uint64_t end = __atomic_load_n(data.length, __ATOMIC_ACQUIRE), left = (uint64_t)at < end ? end - (uint64_t)at : 0;
   if (bytes > left) bytes = left;
   memcpy(to, data.base + at, bytes);
+  return (ssize_t)bytes;
+}
+
+/* Copies bytes of the file: how many there were, or -1 and ESTALE. */
+static ssize_t copy_from(off_t at, void *to, size_t bytes) {
+  pthread_rwlock_rdlock(&copying);
+  ssize_t copied = copy_locked(at, to, bytes);
   pthread_rwlock_unlock(&copying);
-  return bytes;
+  return copied;
+}
+
+static ssize_t copy_parts(int fd, const struct iovec *parts, int count, off_t at) {
+  ssize_t given = 0, copied = 0;
+  if (at < 0 || count < 0) return fail(EINVAL);
+  if (flags_to_read(fd) < 0) return -1;
+  for (int i = 0; i < count && copied >= 0; i++) {
+    copied = copy_from(at + given, parts[i].iov_base, parts[i].iov_len);
+    given += copied < 0 ? 0 : copied;
+  }
+  return given > 0 ? given : copied;
 }
 
 /* Whether a read from another file would put bytes past the page cache into the mapping: nothing notes these, and a commit beside it could lose them. */
@@ -119,11 +174,8 @@ static ssize_t refuse_direct(void) { return refuse("a read with O_DIRECT into it
 
 ssize_t preadv(int fd, const struct iovec *parts, int count, off_t at) {
   if (!is_data(fd)) return is_unnoted(fd, parts, count) ? refuse_direct() : NEXT(preadv)(fd, parts, count, at);
-  if (at < 0 || count < 0) return fail(EINVAL);
-  if (flags_to_read(fd) < 0) return -1;
-  size_t given = 0;
-  for (int i = 0; i < count; i++) given += copy_from(at + (off_t)given, parts[i].iov_base, parts[i].iov_len);
-  return (ssize_t)given;
+  ssize_t given = copy_parts(fd, parts, count, at);
+  return is_to_repeat(given) ? preadv(fd, parts, count, at) : given;
 }
 ssize_t preadv64(int fd, const struct iovec *parts, int count, off_t at) { return preadv(fd, parts, count, at); }
 
@@ -161,7 +213,7 @@ ssize_t __read_chk(int fd, void *to, size_t bytes, size_t room) { return bytes >
 /* Stores bytes that lie in the file as it is: whether they do. */
 static int store_within(off_t at, const void *from, size_t bytes) {
   pthread_rwlock_rdlock(&copying);
-  int is_within = (uint64_t)at + bytes <= __atomic_load_n(data.length, __ATOMIC_ACQUIRE);
+  int is_within = !is_another() && (uint64_t)at + bytes <= __atomic_load_n(data.length, __ATOMIC_ACQUIRE);
   if (is_within) memcpy(data.base + at, from, bytes);
   pthread_rwlock_unlock(&copying);
   return is_within;
@@ -170,7 +222,7 @@ static int store_within(off_t at, const void *from, size_t bytes) {
 /* Stores bytes of which some may lie behind the end: 0, or -1 and errno. Nobody sees the new length before the bytes are there. */
 static int store_beyond(off_t at, const void *from, size_t bytes) {
   pthread_mutex_lock(&lock);
-  int result = make_room((uint64_t)at + bytes);
+  int result = is_another() ? fail(ESTALE) : make_room((uint64_t)at + bytes);
   if (result == 0) memcpy(data.base + at, from, bytes), reach((uint64_t)at + bytes);
   pthread_mutex_unlock(&lock);
   return result;
@@ -191,19 +243,28 @@ static ssize_t store_parts(const struct iovec *parts, int count, off_t at) {
   return stored;
 }
 
+static ssize_t append_parts(const struct iovec *parts, int count, off_t *place) {
+  pthread_mutex_lock(&lock);
+  int is_stale = is_another();
+  if (!is_stale) *place = (off_t)*data.length;
+  ssize_t stored = is_stale ? fail(ESTALE) : store_parts(parts, count, *place);
+  pthread_mutex_unlock(&lock);
+  return stored;
+}
+
 /* Writes at a place or, by a descriptor with O_APPEND, at the end, as Linux does in each of these calls. *place is where the bytes began. */
 static ssize_t write_parts(int fd, const struct iovec *parts, int count, off_t *place) {
   if (*place < 0 || count < 0) return fail(EINVAL);
   int flags = flags_to_write(fd);
   if (flags < 0) return -1;
-  if (flags & O_APPEND) pthread_mutex_lock(&lock), *place = (off_t)*data.length;
-  ssize_t stored = store_parts(parts, count, *place);
-  if (flags & O_APPEND) pthread_mutex_unlock(&lock);
+  ssize_t stored = flags & O_APPEND ? append_parts(parts, count, place) : store_parts(parts, count, *place);
   return stored > 0 && flags & O_DSYNC && commit() != 0 ? -1 : stored;
 }
 
 ssize_t pwritev(int fd, const struct iovec *parts, int count, off_t at) {
-  return is_data(fd) ? write_parts(fd, parts, count, &at) : NEXT(pwritev)(fd, parts, count, at);
+  if (!is_data(fd)) return NEXT(pwritev)(fd, parts, count, at);
+  ssize_t stored = write_parts(fd, parts, count, &at);
+  return is_to_repeat(stored) ? pwritev(fd, parts, count, at) : stored;
 }
 ssize_t pwritev64(int fd, const struct iovec *parts, int count, off_t at) { return pwritev(fd, parts, count, at); }
 
@@ -219,7 +280,7 @@ ssize_t writev(int fd, const struct iovec *parts, int count) {
   ssize_t result = place < 0 ? -1 : write_parts(fd, parts, count, &place);
   result = moved(fd, place, result);
   pthread_mutex_unlock(&lock);
-  return result;
+  return is_to_repeat(result) ? writev(fd, parts, count) : result;
 }
 ssize_t write(int fd, const void *from, size_t bytes) {
   return is_data(fd) ? writev(fd, &(struct iovec){(void *)from, bytes}, 1) : NEXT(write)(fd, from, bytes);
@@ -257,20 +318,27 @@ static off_t sought(int fd, off_t to, int from) {
 
 off_t lseek(int fd, off_t to, int from) {
   if (!is_data(fd)) return NEXT(lseek)(fd, to, from);
-  if (answers() != 0) return -1;
+  int is_had = answers(fd) == 0;
   pthread_mutex_lock(&lock);
-  errno = 0;
-  off_t place = sought(fd, to, from);
+  if (is_had) errno = 0;
+  off_t place = !is_had ? -1 : is_another() ? fail(ESTALE) : sought(fd, to, from);
   if (place >= 0 || errno == 0) place = NEXT(lseek)(fd, place, SEEK_SET);
   pthread_mutex_unlock(&lock);
-  return place;
+  return is_to_repeat(place) ? lseek(fd, to, from) : place;
 }
 off_t lseek64(int fd, off_t to, int from) { return lseek(fd, to, from); }
 
+static int cut(int fd, off_t to) {
+  if (flags_to_write(fd) < 0) return errno == EBADF ? fail(EINVAL) : -1;
+  pthread_mutex_lock(&lock);
+  int result = is_another() ? fail(ESTALE) : resize(to);
+  pthread_mutex_unlock(&lock);
+  return result;
+}
 int ftruncate(int fd, off_t to) {
   if (!is_data(fd)) return NEXT(ftruncate)(fd, to);
-  if (flags_to_write(fd) < 0) return errno == EBADF ? fail(EINVAL) : -1;
-  return resize(to);
+  int result = cut(fd, to);
+  return is_to_repeat(result) ? ftruncate(fd, to) : result;
 }
 int ftruncate64(int fd, off_t to) { return ftruncate(fd, to); }
 
@@ -293,15 +361,19 @@ static int allocate(int fd, int mode, off_t at, off_t bytes) {
   if (__builtin_add_overflow(at, bytes, &end) || (size_t)end > data.most) return too_long();
   if (mode != 0) return 0;
   pthread_mutex_lock(&lock);
-  int result = lengthen((uint64_t)end);
+  int result = is_another() ? fail(ESTALE) : lengthen((uint64_t)end);
   pthread_mutex_unlock(&lock);
   return result;
 }
-int fallocate(int fd, int mode, off_t at, off_t bytes) { return is_data(fd) ? allocate(fd, mode, at, bytes) : NEXT(fallocate)(fd, mode, at, bytes); }
+int fallocate(int fd, int mode, off_t at, off_t bytes) {
+  if (!is_data(fd)) return NEXT(fallocate)(fd, mode, at, bytes);
+  int result = allocate(fd, mode, at, bytes);
+  return is_to_repeat(result) ? fallocate(fd, mode, at, bytes) : result;
+}
 int fallocate64(int fd, int mode, off_t at, off_t bytes) { return fallocate(fd, mode, at, bytes); }
 int posix_fallocate(int fd, off_t at, off_t bytes) {
   if (!is_data(fd)) return NEXT(posix_fallocate)(fd, at, bytes);
-  return allocate(fd, 0, at, bytes) == 0 ? 0 : errno;
+  return fallocate(fd, 0, at, bytes) == 0 ? 0 : errno;
 }
 int posix_fallocate64(int fd, off_t at, off_t bytes) { return posix_fallocate(fd, at, bytes); }
 

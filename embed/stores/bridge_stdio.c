@@ -31,7 +31,7 @@ static FILE *stream_of(int fd, const char *mode, cookie_close_function_t *closes
 }
 
 void flush_streams(void) {
-  if (is_made) fflush(NULL);
+  if (is_made || data.is_lent) fflush(NULL);
 }
 
 /* stdin and stdout, whose descriptors a program or a shell makes those of the data file for a while. */
@@ -71,6 +71,21 @@ void begin_streams(void) {
   self = getpid();
   after_change(STDIN_FILENO);
   after_change(STDOUT_FILENO);
+}
+
+/* The C library's list of its streams, as its own programs for debugging see it. */
+extern FILE *_IO_list_all __attribute__((weak));
+extern void _IO_list_lock(void) __attribute__((weak)), _IO_list_unlock(void) __attribute__((weak));
+
+int has_stream(const struct stat *st) {
+  struct stat it;
+  int has = 0;
+  if (&_IO_list_all == NULL || _IO_list_lock == NULL || _IO_list_unlock == NULL) return 0;
+  _IO_list_lock();
+  for (FILE *stream = _IO_list_all; stream != NULL && !has; stream = stream->_chain)
+    has = stream->_fileno >= 0 && NEXT(fstat)(stream->_fileno, &it) == 0 && it.st_ino == st->st_ino && it.st_dev == st->st_dev;
+  _IO_list_unlock();
+  return has;
 }
 
 /* The flags of open that a mode of fopen means; -1 and errno for none, and for one that asks for a character set. */

@@ -250,12 +250,95 @@ static void interrupted(void) {
   }
 }
 
+/* A file gets the name of the data file while the program has it in a stream of the C library, or mapped. */
+static void end_or_be_killed(void) {
+  if (getenv("CASE_KILLED") != NULL) kill(getpid(), SIGKILL);
+}
+
+static void show_data(void) {
+  char bytes[64] = "";
+  int fd = opened(path);
+  must(read(fd, bytes, 63) >= 0, "read");
+  printf("%s\n", bytes);
+}
+
+static void renamed_stream(void) {
+  FILE *stream = fopen(other, "w");
+  must(stream != NULL && fputs("begin", stream) >= 0 && fflush(stream) == 0 && fsync(fileno(stream)) == 0, "fopen w");
+  must(rename(other, path) == 0, "rename");
+  must(fputs(", end", stream) >= 0 && fflush(stream) == 0, "fputs");
+  end_or_be_killed();
+  must(fclose(stream) == 0, "fclose");
+  show_data();
+}
+
+/* What the C library has of it is written when the program ends. */
+static void renamed_open_stream(void) {
+  FILE *stream = fopen(other, "w");
+  must(stream != NULL && fputs("begin", stream) >= 0 && fflush(stream) == 0 && rename(other, path) == 0, "rename");
+  must(fputs(", end", stream) >= 0, "fputs");
+}
+
+static void renamed_mapping(void) {
+  int fd = opened(other);
+  put(fd, "begin     ", 0);
+  must(ftruncate(fd, 5) == 0, "ftruncate");
+  char *at = mmap(NULL, 4096, PROT_READ | PROT_WRITE, MAP_SHARED, fd, 0);
+  must(at != MAP_FAILED && rename(other, path) == 0, "rename");
+  must(msync(at, 4096, MS_SYNC) == 0 && ftruncate(fd, 10) == 0, "msync");
+  strcpy(at + 5, ", end");
+  end_or_be_killed();
+  must(msync(at, 4096, MS_SYNC) == 0, "msync");
+  show_data();
+}
+
+/* Threads read and write by descriptors of their own, while the name goes from file to file: each descriptor stays at its file, which has one letter alone. */
+static volatile int is_over;
+static void *read_and_write(void *unused) {
+  char bytes[64], letters[64];
+  while (!is_over) {
+    int fd = open(path, O_RDWR);
+    if (fd < 0) continue;
+    for (int k = 0; k < 20; k++) {
+      ssize_t had = pread(fd, bytes, sizeof bytes, 0);
+      memset(letters, had > 0 ? bytes[0] : 'x', sizeof letters);
+      must(had == sizeof bytes && memcmp(bytes, letters, sizeof bytes) == 0, "one letter");
+      must(pwrite(fd, letters, sizeof letters, k % 2 * 4096) == sizeof letters && lseek(fd, 0, SEEK_END) > 0, "pwrite");
+    }
+    must(close(fd) == 0, "close");
+  }
+  return unused;
+}
+
+static void make_file(const char *name, int letter) {
+  char letters[64];
+  memset(letters, letter, sizeof letters);
+  int fd = opened(name);
+  must(pwrite(fd, letters, sizeof letters, 0) == sizeof letters && close(fd) == 0, name);
+}
+
+static void renamed_meanwhile(void) {
+  pthread_t thread[3];
+  make_file(path, 'a');
+  for (int k = 0; k < 3; k++) must(pthread_create(&thread[k], NULL, read_and_write, NULL) == 0, "thread");
+  for (int k = 0; k < 60; k++) {
+    make_file(other, 'b' + k % 20);
+    must(rename(other, path) == 0, "rename");
+    if (k % 5 == 0) must(rename(path, other) == 0 && rename(other, path) == 0, "rename back");
+    if (k % 7 == 0) must(unlink(path) == 0, "unlink");
+  }
+  is_over = 1;
+  for (int k = 0; k < 3; k++) pthread_join(thread[k], NULL);
+  printf("whole\n");
+}
+
 static const struct { const char *name; void (*run)(void); } cases[] = {
   {"fclosed", fclosed}, {"closed_by_the_system", closed_by_the_system}, {"remapped", remapped}, {"threads", threads},
   {"past_the_end", past_the_end}, {"mapped_widely", mapped_widely}, {"cut_meanwhile", cut_meanwhile}, {"vforked", vforked},
   {"written_stream", written_stream}, {"open_stream", open_stream}, {"read_stream", read_stream}, {"reopened_stream", reopened_stream}, {"facts", facts},
   {"allocated", allocated}, {"asynchronous", asynchronous}, {"cloned", cloned}, {"called", called}, {"ended", ended}, {"ended_quickly", ended_quickly},
-  {"interrupted", interrupted},
+  {"interrupted", interrupted}, {"renamed_stream", renamed_stream}, {"renamed_open_stream", renamed_open_stream},
+  {"renamed_mapping", renamed_mapping}, {"renamed_meanwhile", renamed_meanwhile},
 };
 
 int main(int count, char **words) {

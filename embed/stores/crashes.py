@@ -26,13 +26,16 @@ import powercuts
 
 HERE = os.path.dirname(os.path.abspath(__file__))
 sys.path.insert(1, os.path.join(HERE, ".."))
-from images import new_image  # noqa: E402
+from images import new_image, new_pool_image, pool_homes  # noqa: E402
 
 IMAGECAT = os.path.join(HERE, "..", "..", "tools", "imagecat")
 ROOM = 2 << 20  # as workload.h has it
 LENGTH_FILE = 4096  # bytes of the other file of an image of a fixed length
+MOST = 1 << 30  # bytes that the data file of an image with a small pool may get
 FIXED = {"fixed": 4, "2": 2}  # their layouts
 BEFORE, RECORDED = 100, 60  # transactions that are durable before a recorded run, and of it
+LARGE_BEFORE, LARGE_RECORDED, LARGE_STATES = 2, 3, 30  # of large ones
+DATA_FILES = {0: 2, 2: 3, 3: 0}  # the numbers that the data file has in turn
 ROUND = 50  # states of a model and a recorded run
 ALONE_MOST = 300  # states of a row
 PATIENCE = 20  # seconds
@@ -40,13 +43,16 @@ PATIENCE = 20  # seconds
 
 class Row(NamedTuple):
     """A store, how it makes a transaction durable, and its mode in workload.c. `commit_at`: the option of kefsrun over kefs; None where it is
-    only tried alone. `log`: what the name of its log has more than that of its file."""
+    only tried alone. `log`: what the name of its log has more than that of its file. `is_alone`: it is tried alone, too. `is_large`: a transaction changes more
+    pages than a commit takes, and a state takes seconds, so that few are tried."""
 
     store: str
     way: str
     mode: str
     commit_at: str | None
     log: str = ".wal"
+    is_alone: bool = True
+    is_large: bool = False
 
 
 ROWS = (
@@ -59,9 +65,14 @@ ROWS = (
     Row("Tokyo Cabinet", "its transactions", "tokyo-transactions", None),
     Row("gdbm", "`gdbm_sync`", "gdbm", "every"),
     Row("SQLite", "its rollback journal", "sqlite", "every", "-journal"),
+    Row("SQLite", "its journal, removed", "sqlite-delete", "every", "-journal"),
+    Row("SQLite", "its journal, written over", "sqlite-persist", "every", "-journal"),
+    Row("SQLite", "its journal, large transactions", "sqlite-delete-large", "every", "-journal", False, True),
     Row("SQLite", "its WAL", "sqlite-wal-psow", None, "-wal"),
     Row("SQLite", "its WAL, `psow=0`", "sqlite-wal", "every", "-wal"),
+    Row("SQLite", "its WAL, large transactions", "sqlite-wal-large", "every", "-wal", False, True),
     Row("a file", "written anew in its place", "rewritten", "every"),
+    Row("a file", "written anew and renamed", "renamed", "every", is_alone=False),
 )
 CONTROL = Row("control: gdbm", "on a disk that ignores one sync in three", "gdbm", "every")
 CONTROL_IGNORES, CONTROL_STATES = 3, 300
@@ -73,6 +84,7 @@ OWN = {
     "tokyo": (["tchmgr", "list", "-pv"],),
     "gdbm": (["gdbm_dump"],),
     "rewritten": (["cat"],),
+    "renamed": (["cat"],),
     "sqlite": (["sh", "-c", 'test "$(sqlite3 "$0" "pragma integrity_check")" = ok'],),
 }
 
@@ -115,11 +127,21 @@ def imagecat(image, file):
 
 
 def read_apart(image):
-    """The data file's bytes by a reader that shares no code with the library; None where the image is none."""
-    data, other = imagecat(image, 0), imagecat(image, 1)
-    if data is None or other is None:
+    """The data file's bytes by a reader that shares no code with the library; None where the image is none. Of two files that may be it the next one is."""
+    there = {number: imagecat(image, number) for number in DATA_FILES}
+    found = [data for number, data in there.items() if data is not None and there[DATA_FILES[number]] is None]
+    other = imagecat(image, 1)
+    if len(found) != 1 or other is None:
         return None
-    return data[:int.from_bytes(other[:8], "little")] if len(other) == LENGTH_FILE else data
+    return found[0][:int.from_bytes(other[:8], "little")] if len(other) == LENGTH_FILE else found[0]
+
+
+def small_image():
+    """An image as kefsrun makes them, of an empty data file, but whose commits take fewer pages."""
+    image = bytearray(new_pool_image([0, 8], blocks=1))
+    at = 512 * pool_homes(image) + 4096 * 4
+    image[at:at + 8] = MOST.to_bytes(8, "little")
+    return image
 
 
 class Trial:
@@ -142,23 +164,30 @@ class Trial:
 
     def kefsrun(self, name):
         """The words of kefsrun before a command."""
-        return [os.path.join(self.out, "kefsrun"), "-c", self.row.commit_at, self.path(f"{name}.img"), self.path(f"{name}.db"), "--"]
+        options = ["-j"] if self.row.is_large else []
+        return [os.path.join(self.out, "kefsrun"), *options, "-c", self.row.commit_at, self.path(f"{name}.img"), self.path(f"{name}.db"), "--"]
 
     def recorded(self, seed):
         """Runs the workload: the bytes of the file, or of the image, before the recorded part, and the trace of that."""
         self.clear("run")
         if self.images in FIXED:
             written(self.path("run.img"), new_image([ROOM, LENGTH_FILE], layout=FIXED[self.images]))
+        if self.is_kefs and self.row.is_large:
+            written(self.path("run.img"), small_image())
         file, trace = self.path("run.img" if self.is_kefs else "run.db"), self.path("run.trace")
         names = {"RECORDED": file, "LOGGED": self.path("run.db" + self.row.log), "TRACE": trace}
-        self.must_run(self.workload("run", "run", str(seed), str(BEFORE)))
+        self.must_run(self.workload("run", "run", str(seed), str(self.before())))
         with open(file, "rb") as content:
             base = content.read()
         before = len(read_apart(file)) if self.is_kefs else 0
-        self.must_run(self.workload("run", "run", str(seed), str(RECORDED)), LD_PRELOAD=os.path.join(self.out, "recorder.so"), **names)
+        self.must_run(self.workload("run", "run", str(seed), str(LARGE_RECORDED if self.row.is_large else RECORDED)), LD_PRELOAD=os.path.join(self.out, "recorder.so"), **names)
         if self.is_kefs:
             self.grown[len(read_apart(file)) > before] += 1
         return base, trace
+
+    def before(self):
+        """How many transactions are durable before a recorded run."""
+        return LARGE_BEFORE if self.row.is_large else BEFORE
 
     def must_run(self, command, **environment):
         """Runs a command that has to succeed."""
@@ -168,7 +197,7 @@ class Trial:
 
     def clear(self, name):
         """Removes a store, its log, its lock and its image."""
-        for end in (".db", ".db-lock", ".db.wal", ".db-journal", ".db-wal", ".db-shm", ".img"):
+        for end in (".db", ".db.new", ".db-lock", ".db.wal", ".db-journal", ".db-wal", ".db-shm", ".img"):
             if os.path.exists(self.path(name + end)):
                 os.unlink(self.path(name + end))
 
@@ -228,7 +257,7 @@ def tried(trial, states, seed, ignores=0):
         for name, model in powercuts.MODELS.items():
             rng = random.Random(f"{seed + first} {name}")
             for state, log, acknowledged in powercuts.states(base, trace, model, min(ROUND, each - first), rng, ignores):
-                verdict = trial.verdict(state, log, seed + first, max(acknowledged, BEFORE))
+                verdict = trial.verdict(state, log, seed + first, max(acknowledged, trial.before()))
                 tallies[name][verdict.what] += 1
                 tallies[name]["own"] += verdict.refused
     return tallies
@@ -265,13 +294,16 @@ def table(out, folder, states, seed, images):
     print("Bad states; in brackets those that the store's own tools refuse, bad or not.\n")
     print("| Store | alone: page | sector | torn | over kefs: page | sector | torn |\n|---|---|---|---|---|---|---|", flush=True)
     found, grown = collections.defaultdict(collections.Counter), collections.defaultdict(collections.Counter)
-    rows_over = collections.Counter(row.store for row in ROWS if row.commit_at is not None)
+    rows_over = collections.Counter(row.store for row in ROWS if row.commit_at is not None and not row.is_large)
     for row in ROWS:
-        alone = tried(Trial(row, out, folder), min(states, ALONE_MOST), seed)
+        alone = tried(Trial(row, out, folder), min(states, ALONE_MOST), seed) if row.is_alone else NOT_TRIED
         trial = Trial(row, out, folder, images)
-        over = NOT_TRIED if row.commit_at is None else tried(trial, -(-states // rows_over[row.store]), seed)
+        is_over = row.commit_at is not None and (images not in FIXED or row.is_alone)
+        each = LARGE_STATES if row.is_large else -(-states // rows_over[row.store])
+        over = tried(trial, each, seed) if is_over else NOT_TRIED
         grown[row.store].update(trial.grown)
-        say_kinds(row, "alone", alone)
+        if alone is not NOT_TRIED:
+            say_kinds(row, "alone", alone)
         if over is not NOT_TRIED:
             say_kinds(row, "over kefs", over)
             for tally in over.values():

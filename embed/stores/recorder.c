@@ -203,10 +203,17 @@ int msync(void *at, size_t length, int flags) {
 
 /* Calls of a descriptor */
 
+/* A sync of a folder, which is the log's, keeps its name, or that it has none. */
+static int is_folder(int fd) {
+  struct stat st;
+  return trace >= 0 && NEXT(fstat)(fd, &st) == 0 && S_ISDIR(st.st_mode);
+}
+
 static int synced(int fd, int (*next)(int)) {
-  if (is_recorded(fd)) look();
+  int is_noted = is_recorded(fd) || is_folder(fd);
+  if (is_noted) look();
   int result = next(fd);
-  if (is_recorded(fd)) note(SYNC, opened[fd].file, 0);
+  if (is_noted) note(SYNC, is_recorded(fd) ? opened[fd].file : LOG, 0);
   return result;
 }
 int fsync(int fd) { return synced(fd, NEXT(fsync)); }

@@ -1,10 +1,11 @@
-/* A file that is written anew in each transaction, in its place, and synced: what programs do that have no store. Its records lie behind a head, and behind
-   them zeros, more or fewer each time: so it gets longer and shorter. Each other time it is written by a mapping. */
+/* A file that is written anew in each transaction, and synced: what programs do that have no store. Its records lie behind a head, and behind them zeros, more or
+   fewer each time: so it gets longer and shorter. rewritten: in its place, and each other time by a mapping. renamed: by another name, which it then gets. */
 #include "workload.h"
 #include <errno.h>
 #include <fcntl.h>
 #include <stddef.h>
 #include <stdint.h>
+#include <stdio.h>
 #include <stdlib.h>
 #include <string.h>
 #include <sys/mman.h>
@@ -17,6 +18,7 @@ struct head { uint64_t times, records, zeros; }; /* how often it was written, an
 static struct record *records;
 static struct head head;
 static int fd;
+static char file[4096], other[4096 + 8]; /* their names */
 
 static void must(int is, const char *what) {
   if (!is) refused(what, errno == 0 ? "bytes that were never written" : strerror(errno));
@@ -43,6 +45,7 @@ static void open_store(const char *mode, const char *path, enum opening how) {
   struct stat st;
   (void)mode;
   records = calloc(RECORDS, sizeof *records);
+  snprintf(file, sizeof file, "%s", path), snprintf(other, sizeof other, "%s.new", path);
   fd = open(path, how == TO_WRITE ? O_RDWR | O_CREAT : O_RDONLY, 0644);
   must(records != NULL && fd >= 0 && fstat(fd, &st) == 0, "open");
   errno = 0;
@@ -102,6 +105,18 @@ static void commit(void) {
   free(bytes);
 }
 
+/* The descriptor of the file that had the name is open until the other one has it, each other time. */
+static void commit_by_name(void) {
+  size_t length;
+  unsigned char *bytes = content(&length);
+  if (head.times % 2 == 0) must(close(fd) == 0, "close");
+  int next = open(other, O_RDWR | O_CREAT | O_TRUNC, 0644);
+  must(next >= 0 && write(next, bytes, length) == (ssize_t)length && fsync(next) == 0 && rename(other, file) == 0, "rename");
+  if (head.times % 2 != 0) must(close(fd) == 0, "close");
+  fd = next;
+  free(bytes);
+}
+
 static long get(const char *key, size_t key_length, void *to) {
   const struct record *record = found(key, key_length);
   if (record == NULL) return -1;
@@ -113,3 +128,4 @@ static long count(void) { return (long)head.records; }
 static void close_store(void) { must(close(fd) == 0, "close"); }
 
 const struct store rewritten = {"rewritten", open_store, begin, put, drop, commit, get, count, close_store};
+const struct store renamed = {"renamed", open_store, begin, put, drop, commit_by_name, get, count, close_store};

@@ -126,22 +126,30 @@ class Lengths(Grows):
         self.assertGreater(os.path.getsize(self.image), 56 << 20)
 
     def test_the_greatest_length(self):
+        calls = "lambda: os.pwrite(fd, b'x', 1 << 42), lambda: os.ftruncate(fd, (1 << 42) + 1), lambda: os.posix_fallocate(fd, 1 << 42, 1)"
+        tried = f"for call in ({calls}, lambda: os.truncate(path, 1 << 62)):\n    try:\n        call()\n    except OSError as error:\n        print(error.errno)\n"
+        done = self.python(tried + "print(os.fstat(fd).st_size)\n")
+        self.assertEqual((done.stdout, done.stderr.count("it may not get so long")), (f"{errno.EFBIG}\n" * 4 + "0\n", 4))
+
+    def test_a_length_of_over_four_bytes(self):
         text = (
-            "os.ftruncate(fd, (1 << 32) - 1)\n"
-            "os.pwrite(fd, b'x', (1 << 32) - 2)\n"
-            "print(mmap.mmap(fd, (1 << 32) - 1)[-2:])\n"
-            "for call in (lambda: os.pwrite(fd, b'xx', (1 << 32) - 2), lambda: os.ftruncate(fd, 1 << 32), lambda: os.posix_fallocate(fd, 1 << 32, 1)):\n"
-            "    try:\n"
-            "        call()\n"
-            "    except OSError as error:\n"
-            "        print(error.errno)\n"
-            "print(os.fstat(fd).st_size, os.pread(fd, 9, (1 << 32) - 3))\n"
+            "length = int(sys.argv[1])\n"
+            "try:\n    os.ftruncate(fd, length)\nexcept OSError as error:\n    sys.exit(error.errno)\n"
+            "m = mmap.mmap(fd, length)\n"
+            "for at in ((1 << 31) - 2, length - 3 - (1 << 20), length - 3): os.pwrite(fd, b'abc', at)\n"
+            "m[length - 3] = ord('A')\n"
+            "print(m[length - 3:], m[length - 3 - (1 << 20):length - (1 << 20)], os.pread(fd, 9, length - 4))\n"
+            "print(os.fstat(fd).st_size == length, os.lseek(fd, 0, os.SEEK_END) == length)\n"
+            "os.ftruncate(fd, (1 << 31) + 1)\n"
+            "print(os.pread(fd, 9, (1 << 31) - 2))\n"
             "os.ftruncate(fd, 5)\n"
         )
-        done = self.python(text)
-        self.assertEqual(done.stdout, "b'\\x00x'\n" + f"{errno.EFBIG}\n" * 3 + f"{(1 << 32) - 1} b'\\x00x'\n")
-        self.assertEqual(done.stderr.count("it may not get so long"), 3)
-        self.assertEqual(self.apart(), bytes(5))
+        for length in ((1 << 32) - 1, 5 << 30):
+            done = self.python("import sys\nsys.argv[1:] = ['%d']\n%s" % (length, text))
+            if done.returncode == errno.EFBIG and length > 1 << 32:
+                self.skipTest("the library has no files so long")
+            self.assertEqual((done.stdout, done.stderr), ("b'Abc' b'abc' b'\\x00Abc'\nTrue True\nb'abc'\n", ""))
+            self.assertEqual(self.apart(), bytes(5))
 
     def test_a_greatest_length_stays(self):
         self.assertEqual(self.python("os.pwrite(fd, b'x' * 1000, 0)", options=("-m", "1000")).returncode, 0)
@@ -265,9 +273,7 @@ class Stores(Grows):
             return ("gdbmtool", "data"), "".join(f'store {key} "{value}"\n' for key, value in self.records(number, 2000))
 
         self.grow(load, ("gdbmtool", "-r", "data", "list"), rounds=4)
-        done = self.kefsrun("gdbmtool", self.data, "reorganize")  # by a new file that gets the name
-        self.says(done, 0, "Reorganization failed")
-        self.assertIn("refused, and nothing was done: rename", done.stderr)
+        self.both("gdbmtool", "data", "reorganize")  # by a new file that gets the name
         self.both("gdbmtool", "-r", "data", "list")
 
     @unittest.skipUnless(shutil.which("mdb_load"), "LMDB's tools are missing")

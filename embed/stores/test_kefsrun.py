@@ -58,7 +58,7 @@ class Kefsrun(Runs):
     def test_words(self):
         for words in ((), ("a", "b"), ("a", "b", "true"), ("a", "b", "--"), ("-c", "never", "a", "b", "--", "true"), ("-q", "a", "b", "--", "true")):
             self.says(subprocess.run([KEFSRUN, *words], capture_output=True, text=True), 2, "usage: kefsrun")
-        for length in ("0", "4G", "5X", "", "-1", "1KK"):
+        for length in ("0", "8T", "5X", "", "-1", "1KK"):
             self.says(self.kefsrun("true", options=("-m", length)), 125, "no length")
 
     def test_refusals(self):
@@ -257,17 +257,22 @@ print(m[0])
         done = self.python(text.format(4033, 2), options=most)
         self.assertEqual(done.stdout, f"{errno.E2BIG}\n")
         self.assertIn("over 4032 pages", done.stderr)
+        self.assertIn("kefsrun -j makes such a sync by several commits", done.stderr)
+
+    def test_a_sync_of_several_commits(self):
+        text = "os.ftruncate(fd, 1 << 25)\nm = mmap.mmap(fd, 1 << 25)\nfor k in range(8192): m[4096 * k] = {0}\nos.fsync(fd)\n"
+        self.says(self.python(text.format(1), options=("-j", "-v")), 0, "1 commits of 8192 pages")
+        grown = "os.ftruncate(fd, (1 << 25) + 5000)\nos.fsync(fd)\nos.kill(os.getpid(), signal.SIGKILL)\n"
+        self.says(self.python(text.format(2), options=("-j", "-v")), 0, "3 commits of 8192 pages")
+        self.assertEqual(self.python(text.format(3).replace("os.fsync(fd)\n", "") + grown, options=("-j",)).returncode, -signal.SIGKILL)
+        self.assertEqual(self.python("print(os.fstat(fd).st_size, set(os.pread(fd, 1, 4096 * k)[0] for k in range(8192)))").stdout, f"{(1 << 25) + 5000} {{3}}\n")
 
     def test_what_is_refused(self):
         for call, number in (
-            ("os.unlink('data', dir_fd=os.open(os.path.dirname(path), os.O_RDONLY))", errno.EPERM),
-            ("os.replace('/etc/hostname', path)", errno.EPERM),
+            ("os.link(path, path + '.other')", errno.EPERM),
             ("os.write(os.open(path, os.O_RDONLY), b'x')", errno.EBADF),
             ("os.read(os.open(path, os.O_WRONLY), 1)", errno.EBADF),
             ("os.splice(fd, os.pipe()[1], 1)", errno.EINVAL),
-            ("os.unlink(path)", errno.EPERM),
-            ("os.rename(path, path + '.other')", errno.EPERM),
-            ("os.rename('/etc/hostname', path)", errno.EPERM),
             ("os.copy_file_range(fd, 2, 1)", errno.EXDEV),
             ("os.sendfile(1, fd, 0, 1)", errno.EINVAL),
             ("os.ftruncate(fd, (1 << 16) + 1)", errno.EFBIG),
@@ -283,11 +288,11 @@ print(m[0])
             "import ctypes\n"
             "mmap = ctypes.CDLL(None, use_errno=True).mmap\n"
             "mmap.restype, mmap.argtypes = ctypes.c_void_p, [ctypes.c_void_p, ctypes.c_size_t, ctypes.c_int, ctypes.c_int, ctypes.c_int, ctypes.c_long]\n"
-            "print([(mmap(None, size, 3, 1, fd, at) == 2**64 - 1 and ctypes.get_errno()) for size, at in ((1 << 16, 4096), (1 << 40, 0), (1 << 42, 0))])\n"
+            "print([(mmap(None, size, 3, 1, fd, at) == 2**64 - 1 and ctypes.get_errno()) for size, at in ((1 << 16, 4096), (1 << 40, 0), (1 << 46, 0))])\n"
         )
         done = self.python(text)
         self.assertEqual(done.stdout, f"[False, False, {errno.ENOMEM}]\n")
-        self.says(done, 0, "a mapping of over a TiB")
+        self.says(done, 0, "a mapping of so many bytes")
 
     @unittest.skipUnless(shutil.which("kchashmgr"), "Kyoto Cabinet's tools are missing")
     def test_the_lines_of_the_page(self):

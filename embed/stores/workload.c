@@ -15,7 +15,7 @@
 #include <string.h>
 
 enum { PUTS = 8, VALUE = 100, TRANSACTIONS_MOST = 1000000 };
-static const struct store *const stores[] = {&lmdb, &kyoto, &tokyo, &gdbm, &sqlite, &rewritten}, *store;
+static const struct store *const stores[] = {&lmdb, &kyoto, &tokyo, &gdbm, &sqlite, &rewritten, &renamed}, *store;
 static uint64_t seed;
 static uint64_t last_put[KEYS]; /* of each key the transaction that put it last, 0 where it has to be missing */
 

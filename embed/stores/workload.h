@@ -28,7 +28,7 @@ struct store {
   long (*count)(void);
   void (*close)(void);
 };
-extern const struct store lmdb, kyoto, tokyo, gdbm, sqlite, rewritten;
+extern const struct store lmdb, kyoto, tokyo, gdbm, sqlite, rewritten, renamed;
 
 /* Says what a store reported and ends the program with status 3. */
 _Noreturn void refused(const char *what, const char *why);
