@@ -161,7 +161,7 @@ const KefsFile = (() => {
       if (updates.length > this.slots) throw new Error(RESULTS[4]);
       [...updates].sort((a, b) => a.file - b.file || a.page - b.page).forEach(({ file, page, bytes }, n) => {
         const view = this.view();
-        view.setUint8(this.pages + 8 * n, file);
+        view.setUint16(this.pages + 8 * n, file, true);
         view.setUint32(this.pages + 8 * n + 4, page, true);
         view.setBigUint64(this.pointers + 8 * n, BigInt(this.content + PAGE * n), true);
         this.bytes(this.content + PAGE * n, PAGE).set(bytes);
@@ -180,7 +180,7 @@ const KefsFile = (() => {
     // The length of a file in bytes.
     length(file) {
       this.planned(this.library.famsync_length(BigInt(this.handle), ...this.lent(), file, BigInt(this.page)));
-      return this.view().getUint32(this.page, true);
+      return Number(this.view().getBigUint64(this.page, true));
     }
 
     close() { this.device.close(); }
