@@ -1,13 +1,7 @@
 -- How runs of device calls go on.
-use Rattle.disk_model.proofs.Names.{inl, inr, ⊎_elim, ◌≡◌, ◌⊎◌, ◌≤◌, ◌+◌, ℕ, refl, sym, ap, subst, ◌∙◌, arith, cases_eq, cases_lt}
-use Rattle.disk_model.specs.{Stop.{Image, MayLeave, ChangesOnly, ChangesPage, IsOfPage, Elapses, Names, NamesOnce}, Moments.{Nothing, Touches, LeavesNow, LeavesOnly, AsksOnly}, declared.sector_disk.SectorDisk.{Ghosts}}
-
--- a sector is of a page or not
-of_page : (n k : ℕ) → IsOfPage n k ⊎ (IsOfPage n k → ⊥)
-of_page n k = ⊎_elim
-    (λ before. inr (λ inside. omega (arith, before, inside.0)))
-    (λ from. ⊎_elim (λ inside. inl (from, inside)) (λ behind. inr (λ inside. omega (arith, behind, inside.1))) (cases_lt k (n + 8)))
-    (cases_lt k n)
+use Rattle.disk_model.proofs.Names.{inl, inr, ⊎_elim, ◌≡◌, ◌⊎◌, ◌≤◌, ℕ, refl, sym, ap, subst, ◌∙◌, arith, cases_eq}
+use Rattle.disk_model.proofs.Rows.{of_pages}
+use Rattle.disk_model.specs.{Stop.{Image, MayLeave, ChangesOnly, ChangesPage, ChangesPages, IsOfPage, IsOfPages, Elapses, Names, NamesOnce}, Moments.{Nothing, Touches, LeavesNow, LeavesOnly, AsksOnly}, declared.sector_disk.SectorDisk.{Ghosts}}
 
 module _ {D : Type 0} (g : Ghosts D) where
   -- no call at all
@@ -44,48 +38,46 @@ module _ {D : Type 0} (g : Ghosts D) where
         (second.moments t c (omega (arith, le, first.later)) left);
   }
 
+  -- calls that wrote to sectors of W alone
+  pub after_sectors : (W : ℕ → Type 0) (old new : D) → ((k : ℕ) → W k ⊎ (g.content new k ≡ g.content old k))
+      → ((k : ℕ) → g.unsynced new k → g.unsynced old k ⊎ W k)
+      → Elapses (g.moment old) (g.moment new) (g.left_since old) (g.left_since new) (g.content new) (g.unsynced new)
+      → Touches g W old new
+  after_sectors W old new same marked time = record {
+    content = same;
+    unsynced = marked;
+    later = time.later;
+    moments = λ t c le left. ⊎_elim (λ o. inl o)
+        (λ may. inr (record { kept = λ k. ⊎_elim (λ u. inl (marked k u)) (λ e. ⊎_elim (λ w. inl (inr w)) (λ e'. inr (e ∙ e')) (same k)) (may.kept k) }))
+        (time.nothing_else t c le left);
+  }
+
   -- a write to a sector of W
   pub after_write : (W : ℕ → Type 0) (n : ℕ) (old new : D) → W n → ChangesOnly n (g.content old) (g.content new)
       → ((k : ℕ) → g.unsynced new k → g.unsynced old k ⊎ (k ≡ n))
       → Elapses (g.moment old) (g.moment new) (g.left_since old) (g.left_since new) (g.content new) (g.unsynced new)
       → Touches g W old new
-  after_write W n old new w changes marks time = record {
-    content = same;
-    unsynced = marked;
-    later = time.later;
-    moments = λ t c le left. ⊎_elim (λ o. inl o)
-        (λ may. inr (record { kept = λ k. ⊎_elim (λ u. inl (marked k u)) (λ e. ⊎_elim (λ w. inl (inr w)) (λ e'. inr (e ∙ e')) (same k)) (may.kept k) }))
-        (time.nothing_else t c le left);
-  }
+  after_write W n old new w changes marks time = after_sectors W old new (λ k. ⊎_elim (λ e. inl (here k e)) (λ ne. inr (changes.others k ne)) (cases_eq k n))
+      (λ k u. ⊎_elim (λ o. inl o) (λ e. inr (here k e)) (marks k u)) time
     where
       here : (k : ℕ) → k ≡ n → W k
       here k e = subst W (sym e) w
 
-      same : (k : ℕ) → W k ⊎ (g.content new k ≡ g.content old k)
-      same k = ⊎_elim (λ e. inl (here k e)) (λ ne. inr (changes.others k ne)) (cases_eq k n)
+  -- pages written to sectors of W
+  pub after_pages : (W : ℕ → Type 0) (n pages : ℕ) (old new : D) → ((k : ℕ) → IsOfPages n pages k → W k) → ChangesPages n pages (g.content old) (g.content new)
+      → ((k : ℕ) → g.unsynced new k → g.unsynced old k ⊎ IsOfPages n pages k)
+      → Elapses (g.moment old) (g.moment new) (g.left_since old) (g.left_since new) (g.content new) (g.unsynced new)
+      → Touches g W old new
+  after_pages W n pages old new inside changes marks time = after_sectors W old new
+      (λ k. ⊎_elim (λ w. inl (inside k w)) (λ out. inr (changes.others k out)) (of_pages n pages k))
+      (λ k u. ⊎_elim (λ o. inl o) (λ w. inr (inside k w)) (marks k u)) time
 
-      marked : (k : ℕ) → g.unsynced new k → g.unsynced old k ⊎ W k
-      marked k u = ⊎_elim (λ o. inl o) (λ e. inr (here k e)) (marks k u)
-
-  -- a page written to sectors of W
+  -- a page
   pub after_page : (W : ℕ → Type 0) (n : ℕ) (old new : D) → ((k : ℕ) → IsOfPage n k → W k) → ChangesPage n (g.content old) (g.content new)
       → ((k : ℕ) → g.unsynced new k → g.unsynced old k ⊎ IsOfPage n k)
       → Elapses (g.moment old) (g.moment new) (g.left_since old) (g.left_since new) (g.content new) (g.unsynced new)
       → Touches g W old new
-  after_page W n old new inside changes marks time = record {
-    content = same;
-    unsynced = marked;
-    later = time.later;
-    moments = λ t c le left. ⊎_elim (λ o. inl o)
-        (λ may. inr (record { kept = λ k. ⊎_elim (λ u. inl (marked k u)) (λ e. ⊎_elim (λ w. inl (inr w)) (λ e'. inr (e ∙ e')) (same k)) (may.kept k) }))
-        (time.nothing_else t c le left);
-  }
-    where
-      same : (k : ℕ) → W k ⊎ (g.content new k ≡ g.content old k)
-      same k = ⊎_elim (λ w. inl (inside k w)) (λ out. inr (changes.others k out)) (of_page n k)
-
-      marked : (k : ℕ) → g.unsynced new k → g.unsynced old k ⊎ W k
-      marked k u = ⊎_elim (λ o. inl o) (λ w. inr (inside k w)) (marks k u)
+  after_page W n old new inside changes marks time = after_pages W n 1 old new inside (record { others = changes.others }) marks time
 
   -- a read or a sync
   pub after_none : (W : ℕ → Type 0) (old new : D) → g.content new ≡ g.content old

@@ -1,6 +1,6 @@
 -- What the proofs of this crate cite of the crates below it and of the standard library: `use Rattle.disk_model.proofs.Names.{..}`.
 pub use Rattle.std.proofs.Common.{false, Bool, ◌<◌, ap, ◌-◌, true, if◌then◌else◌, ◌≡◌, ℕ, ◌+◌, suc, ◌∙◌, arith, ◌≤◌, refl, ⊎_elim, sym, subst, inr, inl, ◌⊎◌, get_or, length-take, length, List, drop, length-drop, drop-drop, take, ◌*◌, []}
-pub use Rattle.std.proofs.{Common.{length-append, zero, ◌++◌, add-one, ◌^◌, MutBor, rules, replicate, ◌/◌}, Math.Seq.{take-add}, lemmas.{Bool.{cases_eq, cases_lt, false≢true}, List.{drop-take, length-take-le, drop_at, take_all}}}
+pub use Rattle.std.proofs.{Common.{length-append, zero, ◌++◌, add-one, ◌^◌, MutBor, rules, replicate, ◌/◌}, Math.Seq.{take-add}, lemmas.{Bool.{cases_eq, cases_lt, false≢true}, List.{drop-take, length-take-le, drop_at, take_all, drop-replicate, take-replicate}}}
 pub use Rattle.std.{proofs.lemmas.Slice.{take-put_mid, put_mid-paste, take-put_mid_below}, specs.Simd.{first_chunks}}
 pub use base.Fml.{ftrue, Share, flft, fbor, fobs, Lft, GName}
 pub use base.Logic.{SProp, emp, fst∗, id⊢, via, ent, sep}

@@ -1,6 +1,6 @@
 -- What a device holds, and what a stop may leave in it.
 -- After POSIX write(2) and fsync(2): until a sync succeeds, nothing is known of what a stop leaves where a write was made.
-use Rattle.std.specs.Prelude.{ℕ, List, ◌+◌, ◌≡◌, ◌≢◌, ◌⊎◌, ◌≤◌, ◌<◌, Result, OnOk, IsErr}
+use Rattle.std.specs.Prelude.{ℕ, List, ◌+◌, ◌*◌, ◌≡◌, ◌≢◌, ◌⊎◌, ◌≤◌, ◌<◌, Result, OnOk, IsErr}
 
 -- the bytes of each sector
 abbrev pub Image : Type 0
@@ -18,9 +18,17 @@ pub record ChangesOnly (n : ℕ) (old new : Image) : Type 0 where
 abbrev pub IsOfPage : ℕ → ℕ → Type 0
 IsOfPage n k = (n ≤ k) × (k < n + 8)
 
+-- one of the sectors of so many pages, one after the other, the first of which begins at sector n
+abbrev pub IsOfPages : ℕ → ℕ → ℕ → Type 0
+IsOfPages n pages k = (n ≤ k) × (k < n + 8 * pages)
+
 -- no sector but those of the page at n holds other bytes
 pub record ChangesPage (n : ℕ) (old new : Image) : Type 0 where
   pub others : (k : ℕ) → (IsOfPage n k → ⊥) → new k ≡ old k
+
+-- no sector but those of these pages holds other bytes
+pub record ChangesPages (n pages : ℕ) (old new : Image) : Type 0 where
+  pub others : (k : ℕ) → (IsOfPages n pages k → ⊥) → new k ≡ old k
 
 -- Time goes on: a stop since t might have left what it might have left before, or what it may leave now.
 pub record Elapses (before now : ℕ) (past since : ℕ → Image → Type 0) (content : Image) (unsynced : ℕ → Type 0) : Type 0 where

@@ -1,6 +1,6 @@
 //! Which sectors the calls of a device have named, as contracts alone see.
-ghost use Rattle.std.specs.Prelude.{◌≡◌, ℕ};
-ghost use Rattle.disk_model.specs.Stop.{Names, IsOfPage};
+ghost use Rattle.std.specs.Prelude.{◌≡◌, ◌<◌, ◌*◌, ◌^◌, ℕ};
+ghost use Rattle.disk_model.specs.Stop.{Names, IsOfPage, IsOfPages};
 
 use crate::ghost_data::Log;
 
@@ -32,5 +32,13 @@ impl Asked {
         ensures { Names (IsOfPage n) (times_named self.old) (times_named self.new) }
     {
         self.calls.note(&[n, 8], &[], &[]);
+    }
+
+    /// A call names the sectors of `pages` pages from `n` on.
+    pub fn pages(&mut self, n: u64, pages: u64)
+        requires { 8 * pages < 2 ^ 64 }
+        ensures { Names (IsOfPages n pages) (times_named self.old) (times_named self.new) }
+    {
+        self.calls.note(&[n, 8 * pages], &[], &[]);
     }
 }

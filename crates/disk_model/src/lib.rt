@@ -10,9 +10,11 @@ mod file_disk;
 mod ghost_data;
 mod sector_disk;
 mod sim_disk;
+mod write_zeros;
 
 pub use asking::Asked;
 pub use file_disk::{FileContents, FileDisk, Unknown};
 pub use ghost_data::{Count, Log};
 pub use sector_disk::{DiskFault, SECTOR_BYTES, SectorDisk};
 pub use sim_disk::{SimDisk, parts};
+pub use write_zeros::WriteZeros;

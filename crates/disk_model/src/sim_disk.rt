@@ -7,7 +7,7 @@ ghost use Rattle.disk_model.specs.Plan.{is_at, failures_after, first_listed};
 
 use crate::asking::Asked;
 use crate::ghost_data::{Count, Log};
-use crate::{DiskFault, SECTOR_BYTES, SectorDisk};
+use crate::{DiskFault, SECTOR_BYTES, SectorDisk, WriteZeros};
 use std::alloc::{AllocError, Global};
 
 /// What a failed write leaves in its sector, until it is written again.
@@ -362,3 +362,5 @@ impl SectorDisk for SimDisk {
         Ok(())
     }
 }
+
+impl WriteZeros for SimDisk {}

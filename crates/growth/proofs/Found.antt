@@ -1,17 +1,13 @@
 -- Extents with a home of another one, among files and among changes.
-use Rattle.std.proofs.Common.{ℕ, ◌≡◌, ◌<◌, ◌+◌, ⊎_elim, List, length, slice_get, sym, ap, refl, subst, ◌∙◌, arith, Option, Some, None, true, false}
+use Rattle.std.proofs.Common.{ℕ, ◌≡◌, ◌<◌, ◌+◌, ⊎_elim, List, length, slice_get, sym, ap, refl, ◌∙◌, arith, Option, Some, None, true, false}
 use Rattle.std.proofs.lemmas.Bool.{cases_eq, cases_lt, false≢true}
 use Rattle.std.proofs.lemmas.List.{get_or_past}
 use Rattle.std.proofs.lemmas.Option.{none-some}
 use Rattle.directories.specs.Layouts.{entry_in, IsExtent, ShareHome}
-use Rattle.directories.specs.Homes.{extents_of}
 use Rattle.directories.specs.declared.entry.Extent.{Extent}
 use Rattle.directories.specs.declared.entry.Entry.{Entry}
 use Rattle.std.specs.Prelude.{MatchOption, is_some}
-use Rattle.growth.specs.Parts.{extents_of_file, IsApartFrom, IsMet, HaveNone, HasHomeOf, GiveNone, GivesHomeOf}
-use Rattle.growth.specs.Room.{IsUsedExtent, OfBefore, OfChange, OfEntry, IsUnused, IsBlockedBy}
-use Rattle.growth.specs.declared.changes.Change.{Change}
-use Rattle.growth.specs.declared.searching.Held.{Held}
+use Rattle.growth.specs.Parts.{extents_of_file, IsApartFrom, IsMet, HasHomeOf}
 
 -- the extents of a file of the directory
 extent_there : (entry : Option Entry) (entries : List (Option Entry)) (f i : ℕ) (x : Extent) → entry_in entries f ≡ entry → slice_get (extents_of_file entry) i ≡ Some x → IsExtent entries f i x
@@ -47,26 +43,3 @@ none_met xs x (Some y) found none = absurd (false≢true none)
 pub one_met : (xs : List Extent) (x : Extent) (r : Option Extent) → MatchOption r (IsApartFrom xs x) (IsMet xs x) → true ≡ is_some r → (y : Extent) × IsMet xs x y
 one_met xs x None found some = absurd (false≢true (sym some))
 one_met xs x (Some y) found some = (y, found)
-
--- extents in use
-pub used_before : (before : List (Option Entry)) (changes : List Change) (e : Entry) (x : Extent) (held : Held) → HasHomeOf before x held → IsBlockedBy before changes e x held.extent
-used_before before changes e x held has = record { used = OfBefore held.file has.place has.is; shared = has.shared }
-
-pub used_given : (before : List (Option Entry)) (changes : List Change) (e : Entry) (x y : Extent) → GivesHomeOf changes x y → IsBlockedBy before changes e x y
-used_given before changes e x y gives = record { used = OfChange gives.place gives.met.place gives.change gives.is gives.met.is; shared = gives.met.shared }
-
-unused : (before : List (Option Entry)) (changes : List Change) (e : Entry) (x : Extent) → HaveNone before x → GiveNone changes x → IsApartFrom (extents_of e) x
-    → (y : Extent) → IsUsedExtent before changes e y → ShareHome x y → ⊥
-unused before changes e x have give own y (OfBefore g j is) shared = have g j y is shared
-unused before changes e x have give own y (OfChange i j c is there) shared = give i c is j y there shared
-unused before changes e x have give own y (OfEntry j is) shared = own j y is shared
-
-own_there : (before : List (Option Entry)) (changes : List Change) (e : Entry) (x : Extent) (r : Option Extent) → HaveNone before x → GiveNone changes x
-    → MatchOption r (IsApartFrom (extents_of e) x) (IsMet (extents_of e) x) → MatchOption r (IsUnused before changes e x) (IsBlockedBy before changes e x)
-own_there before changes e x None have give own = unused before changes e x have give own
-own_there before changes e x (Some y) have give met = record { used = OfEntry met.place met.is; shared = met.shared }
-
-pub used_own : (before : List (Option Entry)) (changes : List Change) (e : Entry) (x : Extent) (xs : List Extent) (r : Option Extent) → xs ≡ extents_of e → HaveNone before x
-    → GiveNone changes x → MatchOption r (IsApartFrom xs x) (IsMet xs x) → MatchOption r (IsUnused before changes e x) (IsBlockedBy before changes e x)
-used_own before changes e x xs r list have give found = own_there before changes e x r have give
-    (subst (λ (ys : List Extent). MatchOption r (IsApartFrom ys x) (IsMet ys x)) list found)

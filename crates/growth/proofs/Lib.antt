@@ -4,5 +4,6 @@ pub mod Found
 pub mod Changed
 pub mod Checked
 pub mod Lasting
+pub mod Passed
 pub mod Widened
 pub mod Resized

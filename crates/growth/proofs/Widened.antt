@@ -9,7 +9,7 @@ use Rattle.std.specs.List.{range_with_len}
 use Rattle.directories.specs.Homes.{extents_of, homes_of}
 use Rattle.directories.specs.declared.entry.Extent.{Extent}
 use Rattle.directories.specs.declared.entry.Entry.{Entry}
-use Rattle.growth.specs.Room.{IsBlockedBy, HasNoRun, IsRunOf, file_homes, wanted, IsRoom, IsWider, GivesRoom}
+use Rattle.growth.specs.Room.{IsUsedExtent, IsBlockedBy, PassesOver, HasNoRun, IsRunOf, file_homes, wanted, IsRoom, IsWider, GivesRoom}
 use Rattle.growth.specs.declared.changes.Change.{Change}
 use Rattle.growth.specs.declared.room.Homes.{Homes}
 
@@ -37,36 +37,14 @@ last_is [] x y is = same_Some x y is
 last_is (z ∷ zs) x y is = last_is zs x y is
 
 module _ (before : List (Option Entry)) (changes : List Change) (e : Entry) where
-  -- a run that is blocked is so from each home on before the end of what blocks it
-  pub still_blocked : (first count at : ℕ) (y : Extent) → IsBlockedBy before changes e (record { first = first; count = count }) y → 0 < count → first ≤ at → at < y.first + y.count
-      → IsBlockedBy before changes e (record { first = at; count = count }) y
-  still_blocked first count at y blocked some low high =
-      let shared = blocked.shared in
-      let one = shared.one.high in
-      let other = shared.other.low in
-      record {
-        used = blocked.used;
-        shared = ⊎_elim
-            (λ (before_it : at < y.first). record { home = y.first; one = record { low = omega (arith, before_it); high = omega (arith, one, other, low) }; other = record { low = omega arith; high = omega (arith, high, before_it) } })
-            (λ (in_it : y.first ≤ at). record { home = at; one = record { low = omega arith; high = omega (arith, some) }; other = record { low = in_it; high = high } })
-            (cases_lt at y.first);
-      }
-
-  pub ends_behind : (first count : ℕ) (y : Extent) → IsBlockedBy before changes e (record { first = first; count = count }) y → first < y.first + y.count
-  ends_behind first count y blocked =
-      let shared = blocked.shared in
-      let one = shared.one.low in
-      let other = shared.other.high in
-      omega (arith, one, other)
-
   -- runs from a first home on, to where they are known to be blocked
   abbrev pub BlockedTo : Homes → ℕ → ℕ → Type 0
   BlockedTo room count n = (first : ℕ) → room.first ≤ first → first < n → (y : Extent) × IsBlockedBy before changes e (record { first = first; count = count }) y
 
-  pub blocked_more : (room : Homes) (count n : ℕ) (y : Extent) → BlockedTo room count n → IsBlockedBy before changes e (record { first = n; count = count }) y → 0 < count → BlockedTo room count (y.first + y.count)
-  blocked_more room count n y known blocked some first low high = ⊎_elim
+  pub blocked_more : (room : Homes) (count n behind : ℕ) → BlockedTo room count n → PassesOver (IsUsedExtent before changes e) count n behind → BlockedTo room count behind
+  blocked_more room count n behind known pass first low high = ⊎_elim
       (λ less. known first low less)
-      (λ le. (y, still_blocked n count first y blocked some le high))
+      (λ le. let b = pass.blocked first le high in (b.0, record { used = b.1; shared = b.2 }))
       (cases_lt first n)
 
   -- a run in a part of the room

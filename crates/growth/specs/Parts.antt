@@ -45,17 +45,6 @@ pub record HasHomeOf (entries : List (Option Entry)) (x : Extent) (held : Held) 
   pub is : IsExtent entries held.file place held.extent
   pub shared : ShareHome x held.extent
 
--- no extent that these changes give a file has a home of x
-abbrev pub GiveNone : List Change → Extent → Type 0
-GiveNone changes x = (m : ℕ) (c : Change) → slice_get changes m ≡ Some c → IsApartFrom (extents_of_file c.entry) x
-
--- this one has
-pub record GivesHomeOf (changes : List Change) (x y : Extent) : Type 0 where
-  pub place : ℕ
-  pub change : Change
-  pub is : slice_get changes place ≡ Some change
-  pub met : IsMet (extents_of_file change.entry) x y
-
 -- no new extent of these changes has a home of x
 abbrev pub TakeNone : List (Option Entry) → List Change → Extent → Type 0
 TakeNone before changes x = (m : ℕ) (c : Change) → slice_get changes m ≡ Some c → IsApartFrom (new_extents before c) x

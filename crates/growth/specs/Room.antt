@@ -1,5 +1,5 @@
 -- Room for a file that grows.
-use Rattle.std.specs.Prelude.{ℕ, ◌+◌, ◌-◌, ◌≤◌, ◌≡◌, ◌⊎◌, List, [], ◌∷◌, ◌++◌, length, take, slice_get, Option, Some, max}
+use Rattle.std.specs.Prelude.{ℕ, ◌+◌, ◌-◌, ◌<◌, ◌≤◌, ◌≡◌, ◌⊎◌, List, [], ◌∷◌, ◌++◌, length, take, slice_get, Option, Some, max}
 use Rattle.directories.specs.declared.entry.Extent.{Extent}
 use Rattle.directories.specs.declared.entry.Entry.{Entry}
 use Rattle.directories.specs.Homes.{extents_of, homes_of}
@@ -41,6 +41,27 @@ HasNoRun before changes e room n = (first : ℕ) → room.first ≤ first → fi
 -- a free run of n homes
 abbrev pub IsRunOf : List (Option Entry) → List Change → Entry → Homes → ℕ → Extent → Type 0
 IsRunOf before changes e room n x = (x.count ≡ n) × IsFreeRun before changes e room x
+
+-- an extent is one of these,
+abbrev pub IsOf : List Extent → Extent → Type 0
+IsOf xs y = (i : ℕ) × (slice_get xs i ≡ Some y)
+
+-- one of a file's,
+abbrev pub IsOfFile : List (Option Entry) → Extent → Type 0
+IsOfFile entries y = (g : ℕ) × (j : ℕ) × IsExtent entries g j y
+
+-- or one that a change gives a file
+abbrev pub IsOfChange : List Change → Extent → Type 0
+IsOfChange changes y = (i : ℕ) × (c : Change) × (slice_get changes i ≡ Some c) × IsOf (extents_of_file c.entry) y
+
+-- A pass over extents moves the first home of a run of n:
+pub record PassesOver (Is : Extent → Type 0) (n first behind : ℕ) : Type 0 where
+  -- on, or not at all;
+  pub rises : first ≤ behind
+  -- a run that begins at a home that it has passed is blocked by one of the extents,
+  pub blocked : (at : ℕ) → first ≤ at → at < behind → (y : Extent) × Is y × ShareHome (record { first = at; count = n }) y
+  -- and where it did not move it, none of them has a home of the run.
+  pub free : behind ≡ first → (y : Extent) → Is y → ShareHome (record { first = first; count = n }) y → ⊥
 
 -- how many homes a file has
 abbrev pub file_homes : Entry → ℕ

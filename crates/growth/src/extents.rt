@@ -13,12 +13,21 @@ pub(crate) fn end_of(extent: &Extent) -> u64
     u64::from(extent.first) + u64::from(extent.count)
 }
 
+/// Whether an extent has one of so many homes from `first` on.
+pub(crate) fn blocks(extent: &Extent, first: u64, count: u64) -> bool
+    ensures some { IsTrue result → ShareHome (record { first = first; count = count }) extent.now }
+    ensures none { IsFalse result → ShareHome (record { first = first; count = count }) extent.now → ⊥ }
+{
+    let start = u64::from(extent.first);
+    start.max(first) < end_of(extent) && start.saturating_sub(first) < count
+}
+
 /// Whether two extents have a home in common.
 fn meet(one: &Extent, other: &Extent) -> bool
     ensures some { IsTrue result → ShareHome one.now other.now }
     ensures none { IsFalse result → ShareHome one.now other.now → ⊥ }
 {
-    u64::from(one.first.max(other.first)) < end_of(one).min(end_of(other))
+    blocks(other, u64::from(one.first), u64::from(one.count))
 }
 
 /// The first of these extents with a home of this one; `None` exactly where there is none.

@@ -11,6 +11,7 @@ mod extents;
 mod faults;
 mod forms;
 mod laws;
+mod passes;
 mod resizing;
 mod room;
 mod searching;

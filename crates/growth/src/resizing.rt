@@ -1,5 +1,5 @@
 //! Files that get another length.
-ghost use Rattle.std.specs.Prelude.{◌≡◌, ◌≤◌, length, MatchOption, IfSome};
+ghost use Rattle.std.specs.Prelude.{◌≡◌, MatchOption, IfSome};
 ghost use Rattle.directories.specs.Homes.{pages_of_length};
 ghost use Rattle.growth.specs.Room.{HasNoRoom};
 ghost use Rattle.growth.specs.Resizing.{AreNeeded, IsCut, IsResized, StaysHome};
@@ -18,7 +18,6 @@ pub fn resize(
     bytes: u64,
     room: Homes,
 ) -> Option<Entry>
-    requires { length before.now ≤ 4096 }
     ensures entry { MatchOption result (HasNoRoom before.now changes.now entry.now (pages_of_length bytes) room) (IsResized before.now changes.now entry.now bytes room) }
     ensures keeps { IfSome result (StaysHome entry.now) }
 {

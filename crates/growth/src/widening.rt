@@ -1,12 +1,12 @@
 //! Room for a file that grows.
-ghost use Rattle.std.specs.Prelude.{◌≡◌, ◌≤◌, ◌<◌, length, slice_set, MatchOption};
+ghost use Rattle.std.specs.Prelude.{◌≡◌, ◌<◌, length, slice_set, MatchOption};
 ghost use Rattle.directories.specs.Homes.{extents_of};
 ghost use Rattle.growth.specs.Room.{HasNoRun, IsRunOf, HasNoRoom, GivesRoom, IsRoom, IsWider};
 
 use crate::changes::Change;
 use crate::extents::{end_of, extents_of_file};
+use crate::passes::pass_used;
 use crate::room::Homes;
-use crate::searching::find_used;
 use directories::{EXTENTS, Entry, Extent};
 
 /// How many homes a file gets at least, where it gets new ones and there are as many in a row.
@@ -22,7 +22,6 @@ pub fn widen(
     count: u64,
     room: Homes,
 ) -> Option<Entry>
-    requires { length before.now ≤ 4096 }
     ensures { MatchOption result (HasNoRoom before.now changes.now entry.now count room) (GivesRoom before.now changes.now entry.now count room) }
 {
     let homes = entry.homes();
@@ -70,8 +69,7 @@ fn find_room(
     missing: u64,
     room: Homes,
 ) -> Option<Extent>
-    requires few { length before.now ≤ 4096 }
-    requires some { 0 < missing }
+    requires { 0 < missing }
     ensures { MatchOption result (HasNoRun before.now changes.now entry.now room missing) (IsRoom before.now changes.now entry.now room missing) }
 {
     let wanted = entry.homes().max(LEAST).max(missing);
@@ -89,8 +87,7 @@ fn find_run(
     count: u64,
     room: Homes,
 ) -> Option<Extent>
-    requires few { length before.now ≤ 4096 }
-    requires some { 0 < count }
+    requires { 0 < count }
     ensures { MatchOption result (HasNoRun before.now changes.now entry.now room count) (IsRunOf before.now changes.now entry.now room count) }
 {
     let last = last_end(before, changes, entry).min(u64::from(room.end));
@@ -104,7 +101,9 @@ fn find_run(
     }
 }
 
-/// The first run of so many homes in the room that are not in use.
+/// The first run of so many homes in the room that are not in use. A pass over all extents that are in use moves the run's first home
+/// behind each that has a home of the run, and a run that a pass leaves where it was is free. Where extents lie in the order of their
+/// files, the second pass is the last.
 fn find_gap(
     before: &[Option<Entry>],
     changes: &[Change],
@@ -112,21 +111,20 @@ fn find_gap(
     count: u64,
     room: Homes,
 ) -> Option<Extent>
-    requires few { length before.now ≤ 4096 }
-    requires some { 0 < count }
+    requires { 0 < count }
     ensures { MatchOption result (HasNoRun before.now changes.now entry.now room count) (IsRunOf before.now changes.now entry.now room count) }
 {
     let end = u64::from(room.end);
     let mut first = u64::from(room.first);
     while first < end && count <= end - first {
-        let run = Extent {
-            first: first as u32,
-            count: count as u32,
-        };
-        match find_used(before, changes, entry, &run) {
-            Some(used) => first = end_of(&used),
-            None => return Some(run),
+        let next = pass_used(before, changes, entry, first, count);
+        if next == first {
+            return Some(Extent {
+                first: first as u32,
+                count: count as u32,
+            });
         }
+        first = next;
     }
     None
 }

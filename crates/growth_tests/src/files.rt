@@ -39,3 +39,12 @@ fn extent(homes: (u32, u32)) -> Extent {
 pub(crate) fn files() -> [Option<Entry>; 3] {
     [file(5, (4, 4), (90, 1)), None, file(2, (8, 1), (9, 1))]
 }
+
+/// Files that lie in falling order: between their extents there are gaps of 2, 3, 5, 7 and 6 homes, and their last home is 69.
+pub(crate) fn falling() -> [Option<Entry>; 3] {
+    [
+        file(12, (61, 9), (52, 3)),
+        file(17, (35, 10), (23, 7)),
+        file(14, (12, 8), (4, 6)),
+    ]
+}

@@ -1,6 +1,6 @@
 //! Room for a file that grows.
 use crate::bench::equal;
-use crate::files::{file, files, with_third};
+use crate::files::{falling, file, files, with_third};
 use directories::{EXTENTS, Entry, Extent};
 use growth::{Change, Homes, resize, widen};
 
@@ -48,6 +48,36 @@ fn room_is_found(rt: HostRuntime) {
         (70, 4, 100, None),
     ] {
         equal(&rt, (count, wider(count, first, end)), (count, found));
+    }
+}
+
+/// The first home and the number of homes of the extent that file 1 of `falling` gets for so many homes in all, where two homes are behind
+/// all that are in use.
+fn found_among_falling(count: u64) -> Option<(u32, u32)> {
+    let before = falling();
+    let Some(entry) = before[1] else {
+        return None;
+    };
+    let room = Homes { first: 4, end: 72 };
+    match widen(&before, &[], &entry, count, room) {
+        Some(wider) => Some((wider.extents[2].first, wider.extents[2].count)),
+        None => None,
+    }
+}
+
+// Behind all that is in use; in the first gap that has as many, behind some that have fewer; nowhere.
+#[test]
+fn gaps_are_found_among_files_in_falling_order(rt: HostRuntime) {
+    for (count, found) in [
+        (19, Some((70, 2))),
+        (20, Some((20, 3))),
+        (21, Some((30, 4))),
+        (22, Some((30, 5))),
+        (23, Some((45, 6))),
+        (24, Some((45, 7))),
+        (25, None),
+    ] {
+        equal(&rt, (count, found_among_falling(count)), (count, found));
     }
 }
 

@@ -7,11 +7,11 @@ use Rattle.disk_model.{proofs.Pieces.{joined-same, joined_parts}, specs.{Sectors
 use Rattle.directories.{specs.{Entries.{SaysEntry, entry_bytes}, Homes.{HasHome}, Kinds.{IsKind}, Layouts.{entry_in}, declared.entry.Entry.{Entry}}, proofs.Owned.{gives_homes}}
 use Rattle.file_store.{proofs.Pieces.{trimmed-trimmed, length-trimmed}, specs.{Commit.{cut_page}, Layout.{padded_page}, Standing.{IsPageOf}}}
 use Rattle.growth.specs.{Changes.{entry_then}, declared.changes.Change.{Change}}
-use Rattle.pool_growth.proofs.{Cut.{begins_inside, cut_further, cut_inside, entry_counted, home_has, inside_small, is_counted, no_more_inside, page_with_home}, Directory.{are_changed, changed_found, in_front, unchanged, StandsIn}}
+use Rattle.pool_growth.proofs.{Cut.{begins_inside, cut_further, cut_inside, entry_counted, home_has, inside_small, is_counted, joined_zeros, no_more_inside, padded_zeros, page_with_home}, Directory.{are_changed, changed_found, in_front, unchanged, StandsIn}}
 use Rattle.pool_growth.proofs.Ordering.{given_listed, given_new, ArePlacedThen}
-use Rattle.pool_growth.proofs.New.{entry_later, front_not_new, info_later, new_behind, new_found, new_homed, old_not_new}
-use Rattle.pool_growth.specs.{Asked.{entries_then, is_changed, AreFileChanges, changed_pages}, Files.{added_count, files_after, given_page, new_page, file_page_count, ChangesFiles, StandsInList, IsNewPage}}
-use Rattle.pool_growth.specs.{Front.{AreChangedPages}, Late.{cut_given, late_page}, Putting.{cut_new, inside_then, new_home, IsNewHome, LeavesOtherHomes, NewPagesStand}}
+use Rattle.pool_growth.proofs.{New.{entry_later, front_not_new, info_later, later_homed, home_is, new_homed, new_own, old_not_new}, Numbered.{stands_or}}
+use Rattle.pool_growth.specs.{Asked.{entries_then, is_changed, AreFileChanges, AreNewPages, changed_pages}, Files.{files_after, given_page, file_page_count, ChangesFiles, StandsInList, IsNewPage}}
+use Rattle.pool_growth.specs.{Front.{AreChangedPages}, Late.{cut_given, late_page}, Putting.{cut_new, inside_then, new_home, IsNewHome, LeavesOtherHomes, NewPagesStand, OthersAreBlank}}
 use Rattle.pool_journal.specs.Pools.{pool, pool_standing}
 use Rattle.pool_store.proofs.{Entries.{entry_stood}, Ordered.{page_is}, Standing.{AreAlike, SameHead, bad_moves, entry_same}}
 use Rattle.pool_store.specs.{Files.{StandsFor, StandsAs, info_of, page_of}, Places.{index_at}, Pools.{AreSaid, entry_by, entry_standing, files_in_pool, IsBadPool, IsBadPool.{Unmarked, OtherKind, TooSmall, NoDirectory}}}
@@ -91,12 +91,12 @@ module _ (n : ℕ) (directory : Directory) (on : IsDirectoryOn n directory) (cha
   }
 
   -- Where some new pages stand, and the other pages of a commit over that:
-  module _ (list : List FilePage)
+  module _ (fresh : List FilePage) (new : AreNewPages (info_by directory) changes fresh) (list : List FilePage)
       (ends : (f : ℕ) (was now : FileInfo) → info_by directory f ≡ Some was → files_after (info_by directory) changes f ≡ Some now → was.length < now.length → (was.length % 4096 ≡ 0 → ⊥) → StandsInList list f (was.length / 4096))
-      (put : ℕ) (low : put ≤ added_count (info_by directory) changes) (places : List Place) (homes : List ℕ) (placed : ArePlacedThen directory changes list put places homes)
+      (put : ℕ) (low : put ≤ length fresh) (places : List Place) (homes : List ℕ) (placed : ArePlacedThen directory changes fresh list put places homes)
       (front : List (List ℕ)) (fronts : AreChangedPages directory changes front)
       (given : ℕ → List ℕ) (mid : Image) (beside : LeavesOtherHomes m n (IsNewHome directory changes) old mid)
-      (stand : NewPagesStand m n directory changes given put mid) where
+      (stand : NewPagesStand m n directory changes fresh given put mid) (blank : OthersAreBlank m n directory changes fresh (length fresh) mid) where
     abbrev late : List ℕ
     late = changed_pages changes directory.pages ++ homes
 
@@ -104,13 +104,13 @@ module _ (n : ℕ) (directory : Directory) (on : IsDirectoryOn n directory) (cha
     count = length (changed_pages changes directory.pages)
 
     abbrev added : ℕ
-    added = added_count (info_by directory) changes
+    added = length fresh
 
     abbrev into_slots : ℕ → List ℕ
-    into_slots = late_page directory changes list front places put given
+    into_slots = late_page directory changes fresh list front places put given
 
     abbrev pub After : ℕ → ℕ → List ℕ
-    After = changed (pool_standing m n mid) (changed_pages changes directory.pages ++ homes) (late_page directory changes list front places put given)
+    After = changed (pool_standing m n mid) (changed_pages changes directory.pages ++ homes) (late_page directory changes fresh list front places put given)
 
     long : length late ≡ count + length homes
     long = length-append (changed_pages changes directory.pages) homes
@@ -144,7 +144,7 @@ module _ (n : ℕ) (directory : Directory) (on : IsDirectoryOn n directory) (cha
     front_below : (h : ℕ) → IsFront h → h < directory.pages
     front_below h at = (let each = are_changed changes directory.pages at.0 at.2 in omega (arith, each.0, at.3))
 
-    file_at : (h : ℕ) (at : IsFilePage h) → (p : FilePage) × (given_page infos changes list (put + index_at places at.0) ≡ Some p) × HasHome now_entries p.file p.page h
+    file_at : (h : ℕ) (at : IsFilePage h) → (p : FilePage) × (given_page fresh list (put + index_at places at.0) ≡ Some p) × HasHome now_entries p.file p.page h
     file_at h at = (let each = placed.each at.0 at.2 in (each.0, each.1, subst (HasHome now_entries each.0.file each.0.page) at.3 each.2))
 
     file_behind : (h : ℕ) → IsFilePage h → directory.pages ≤ h
@@ -154,22 +154,22 @@ module _ (n : ℕ) (directory : Directory) (on : IsDirectoryOn n directory) (cha
     front_page : (j : ℕ) → j < count → into_slots j ≡ get_or front j []
     front_page j below =
         let inside : nat_lt j (length front) ≡ true = grind (arith, below, fronts.long, nat_tests) in
-        cond-true (nat_lt j (length front)) (get_or front j []) (cut_given directory changes list given (put + index_at places (j - length front))) inside
+        cond-true (nat_lt j (length front)) (get_or front j []) (cut_given directory changes fresh list given (put + index_at places (j - length front))) inside
 
-    file_page : (j : ℕ) → into_slots (count + j) ≡ cut_given directory changes list given (put + index_at places j)
+    file_page : (j : ℕ) → into_slots (count + j) ≡ cut_given directory changes fresh list given (put + index_at places j)
     file_page j =
         let past : nat_lt (count + j) (length front) ≡ false = grind (arith, fronts.long, nat_tests) in
         let back : count + j - length front ≡ j = omega (arith, fronts.long) in
-        cond-false (nat_lt (count + j) (length front)) (get_or front (count + j) []) (cut_given directory changes list given (put + index_at places (count + j - length front))) past
-        ∙ ap (λ (i : ℕ). cut_given directory changes list given (put + index_at places i)) back
+        cond-false (nat_lt (count + j) (length front)) (get_or front (count + j) []) (cut_given directory changes fresh list given (put + index_at places (count + j - length front))) past
+        ∙ ap (λ (i : ℕ). cut_given directory changes fresh list given (put + index_at places i)) back
 
     -- a page whose home is none of these is none of those that a source gives for slots,
-    not_given : (f k h i : ℕ) → HasHome now_entries f k h → (StandsIn late h → ⊥) → put ≤ i → i < added + length list → given_page infos changes list i ≡ Some (record { file = f; page = k }) → ⊥
+    not_given : (f k h i : ℕ) → HasHome now_entries f k h → (StandsIn late h → ⊥) → put ≤ i → i < added + length list → given_page fresh list i ≡ Some (record { file = f; page = k }) → ⊥
     not_given f k h i has none from below is =
         let found = placed.found (i - put) (omega (arith, from, below)) in
         let each = placed.each found.0 found.1 in
         let index : put + index_at places found.0 ≡ i = (let at = found.2 in omega (arith, at, from)) in
-        let page : each.0 ≡ record { file = f; page = k } = same_Some each.0 (record { file = f; page = k }) (sym each.1 ∙ ap (given_page infos changes list) index ∙ is) in
+        let page : each.0 ≡ record { file = f; page = k } = same_Some each.0 (record { file = f; page = k }) (sym each.1 ∙ ap (given_page fresh list) index ∙ is) in
         let its : HasHome now_entries f k (get_or homes found.0 0) = subst (λ (p : FilePage). HasHome now_entries p.file p.page (get_or homes found.0 0)) page each.2 in
         let home : get_or homes found.0 0 ≡ h = same_Some (get_or homes found.0 0) h (sym (home_has now_entries f k (get_or homes found.0 0) its) ∙ home_has now_entries f k h has) in
         none (count + found.0, (let less = found.1 in omega (arith, long, less)), at_behind found.0 ∙ home)
@@ -180,14 +180,11 @@ module _ (n : ℕ) (directory : Directory) (on : IsDirectoryOn n directory) (cha
         let inside = slice_get_within list listed.0 listed.1 listed.2 in
         let back : added + listed.0 - added ≡ listed.0 = omega arith in
         not_given f k h (added + listed.0) has none (omega (arith, low)) (omega (arith, inside))
-        (given_listed infos changes list (added + listed.0) (omega arith) ∙ ap (slice_get list) back ∙ listed.2 ∙ ap Some (page_is listed.1 f k listed.3 listed.4))
+        (given_listed fresh list (added + listed.0) (omega arith) ∙ ap (slice_get list) back ∙ listed.2 ∙ ap Some (page_is listed.1 f k listed.3 listed.4))
 
     -- nor is a page that was one a new one
     not_new : (f k : ℕ) → k < file_page_count (infos f) → IsNewPage infos changes f k → ⊥
-    not_new f k there new =
-        let behind = new_behind n directory on changes are new.0 new.1 new.2 in
-        let same = ap (λ (g : ℕ). file_page_count (infos g)) new.3 in
-        omega (arith, there, behind.0, same, new.4)
+    not_new f k there is = omega (arith, there, is.0)
 
     -- An image that stands for these:
     module _ (image : Image) (kept : IsKept (pool m n) sectors mid (StandsForPages (pool m n) After) image) where
@@ -272,7 +269,7 @@ module _ (n : ℕ) (directory : Directory) (on : IsDirectoryOn n directory) (cha
           let small : inside_of (later f) k ≤ 4096 = inside_small (later f) k in
           page_now f k h has ∙ ap (padded_page (inside_of (later f) k)) is ∙ trimmed-trimmed (inside_of (later f) k) bytes small ∙ sym (cut_inside (later f) info k bytes there)
 
-      module _ (before after : ℕ → ℕ → List ℕ) (was : StandsFor (files_in_pool m directory.pages n) sectors infos before old) (becomes : ChangesFiles infos changes list given before after) where
+      module _ (before after : ℕ → ℕ → List ℕ) (was : StandsFor (files_in_pool m directory.pages n) sectors infos before old) (becomes : ChangesFiles infos changes fresh list given before after) where
         -- no more of a page that was one lies inside its file than before, unless it is of the list: the last one of a file that gets longer is
         inside_before : (f k : ℕ) → k < file_page_count (infos f) → k < file_page_count (later f) → (StandsInList list f k → ⊥) → inside_of (later f) k ≤ inside_of (infos f) k
         inside_before f k there here none =
@@ -305,12 +302,12 @@ module _ (n : ℕ) (directory : Directory) (on : IsDirectoryOn n directory) (cha
             ∙ sym (becomes.others f k (λ new. not_new f k there new) none ∙ cut_inside (later f) b.0 k (before f k) b.1)
 
         -- what a source gives is what becomes of its page
-        put_given : (i : ℕ) (p : FilePage) → given_page infos changes list i ≡ Some p → after p.file p.page ≡ cut_page (later p.file) p.page (given i)
+        put_given : (i : ℕ) (p : FilePage) → given_page fresh list i ≡ Some p → after p.file p.page ≡ cut_page (later p.file) p.page (given i)
         put_given i p is = ⊎_elim
-            (λ new. becomes.added i p (sym (given_new infos changes list i new) ∙ is))
+            (λ new. becomes.added i p (sym (given_new fresh list i new) ∙ is))
             (λ past.
             let back : added + (i - added) ≡ i = omega (arith, past) in
-            becomes.listed (i - added) p (sym (given_listed infos changes list i past) ∙ is) ∙ ap (λ (j : ℕ). cut_page (later p.file) p.page (given j)) back)
+            becomes.listed (i - added) p (sym (given_listed fresh list i past) ∙ is) ∙ ap (λ (j : ℕ). cut_page (later p.file) p.page (given j)) back)
             (cases_lt i added)
 
         -- in a slot: as given
@@ -321,7 +318,7 @@ module _ (n : ℕ) (directory : Directory) (on : IsDirectoryOn n directory) (cha
             let i : ℕ = put + index_at places at.0 in
             let one = file_at h at in
             let same = (gives_homes directory.pages n now_entries are.may.good).apart one.0.file one.0.page f k h one.2 has in
-            let got : given_page infos changes list i ≡ Some page = one.1 ∙ ap Some (page_is one.0 f k same.0 same.1) in
+            let got : given_page fresh list i ≡ Some page = one.1 ∙ ap Some (page_is one.0 f k same.0 same.1) in
             let bytes : into_slots (count + at.0) ≡ padded_page (inside_of (later f) k) (given i) =
             file_page at.0 ∙ ap (λ (o : Option FilePage). padded_page (inside_then directory changes o) (given i)) got in
             let whole : length (padded_page (inside_of (later f) k) (given i)) ≡ 4096 = length-trimmed (inside_of (later f) k) (given i) (inside_small (later f) k) in
@@ -329,14 +326,14 @@ module _ (n : ℕ) (directory : Directory) (on : IsDirectoryOn n directory) (cha
             ∙ sym (put_given i page got)
 
         -- of no slot, and new: as it was put
-        unslotted : (f k i : ℕ) → i < put → new_page infos changes i ≡ Some (record { file = f; page = k }) → k < file_page_count (later f) → HasHome now_entries f k (new_home directory changes i)
-            → IsBeside (new_home directory changes i) → page_of left k (entry_by directory.pages left f) ≡ after f k
+        unslotted : (f k i : ℕ) → i < put → slice_get fresh i ≡ Some (record { file = f; page = k }) → k < file_page_count (later f) → HasHome now_entries f k (new_home directory changes fresh i)
+            → IsBeside (new_home directory changes fresh i) → page_of left k (entry_by directory.pages left f) ≡ after f k
         unslotted f k i below is here has at =
             let b = begins_inside (later f) k here in
-            let h : ℕ = new_home directory changes i in
-            let bytes : cut_new directory changes given i ≡ padded_page (inside_of (later f) k) (given i) = ap (λ (o : Option FilePage). padded_page (inside_then directory changes o) (given i)) is in
-            let whole : length (cut_new directory changes given i) ≡ 4096 = ap length bytes ∙ length-trimmed (inside_of (later f) k) (given i) (inside_small (later f) k) in
-            page_given f k h (given i) has (in_parts h (cut_new directory changes given i) (λ j small. left_by h j None small at.0 ∙ stand i j below small) whole ∙ bytes) b.0 b.1
+            let h : ℕ = new_home directory changes fresh i in
+            let bytes : cut_new directory changes fresh given i ≡ padded_page (inside_of (later f) k) (given i) = ap (λ (o : Option FilePage). padded_page (inside_then directory changes o) (given i)) is in
+            let whole : length (cut_new directory changes fresh given i) ≡ 4096 = ap length bytes ∙ length-trimmed (inside_of (later f) k) (given i) (inside_small (later f) k) in
+            page_given f k h (given i) has (in_parts h (cut_new directory changes fresh given i) (λ j small. left_by h j None small at.0 ∙ stand i j below small) whole ∙ bytes) b.0 b.1
             ∙ sym (becomes.added i (record { file = f; page = k }) is)
 
         -- a page with a home that is there then, and in no slot, or in one
@@ -355,23 +352,42 @@ module _ (n : ℕ) (directory : Directory) (on : IsDirectoryOn n directory) (cha
             let had = had_home f k there in
             by_home f k had.0 here (are.keeps f k had.0 there here had.1) (λ at. unlisted f k had.0 there here had.1 at)
 
-        put_new : (f k i : ℕ) → i < added → new_page infos changes i ≡ Some (record { file = f; page = k }) → k < file_page_count (later f) → page_of left k (entry_by directory.pages left f) ≡ after f k
+        -- a new page that is given
+        put_new : (f k i : ℕ) → i < added → slice_get fresh i ≡ Some (record { file = f; page = k }) → k < file_page_count (later f) → page_of left k (entry_by directory.pages left f) ≡ after f k
         put_new f k i below is here =
-            let h : ℕ = new_home directory changes i in
+            let h : ℕ = new_home directory changes fresh i in
             let page : FilePage = record { file = f; page = k } in
-            let homed = new_homed n directory changes are i below in
+            let homed = new_homed n directory changes are fresh new i below in
             let has : HasHome now_entries f k h = subst (λ (p : FilePage). HasHome now_entries p.file p.page h) (same_Some homed.0 page (sym homed.1 ∙ is)) homed.2 in
             by_home f k h here has (λ at. ⊎_elim
             (λ (first : i < put). unslotted f k i first is here has at)
-            (λ (from : put ≤ i). absurd (not_given f k h i has at.1 from (omega (arith, below)) (given_new infos changes list i below ∙ is)))
+            (λ (from : put ≤ i). absurd (not_given f k h i has at.1 from (omega (arith, below)) (given_new fresh list i below ∙ is)))
             (cases_lt i put))
+
+        -- and one that is not
+        blank_new : (f k : ℕ) → IsNewPage infos changes f k → (StandsInList fresh f k → ⊥) → page_of left k (entry_by directory.pages left f) ≡ after f k
+        blank_new f k is none =
+            let homed = later_homed n directory changes are f k is.1 in
+            let h = homed.0 in
+            let page : FilePage = record { file = f; page = k } in
+            let its : IsNewHome directory changes h = (page, is, home_is n directory changes are page h homed.1) in
+            let other : (i : ℕ) → i < added → new_home directory changes fresh i ≡ h → ⊥ = λ i below same.
+            none (i, page, new_own n directory changes are fresh new i f k below (subst (HasHome now_entries f k) (sym same) homed.1), refl, refl) in
+            by_home f k h is.1 homed.1 (λ at.
+            page_now f k h homed.1
+            ∙ ap (padded_page (inside_of (later f) k)) (joined_zeros (left h) (λ j small. left_by h j None small at.0 ∙ blank h j its other small))
+            ∙ padded_zeros (inside_of (later f) k) (inside_small (later f) k)
+            ∙ sym (becomes.blank f k is none))
 
         page_then : (f k : ℕ) → IsPageOf later f k → page_of left k (entry_by directory.pages left f) ≡ after f k
         page_then f k within =
             let here = is_counted (later f) within.0 k within.1 within.2 in
             ⊎_elim
             (λ there. old_page f k there here)
-            (λ behind. (let found = new_found n directory on changes are f k behind here in put_new f k found.0 found.1 found.2 here))
+            (λ behind. ⊎_elim
+            (λ at. put_new f k at.0 (slice_get_within fresh at.0 at.1 at.2) (at.2 ∙ ap Some (page_is at.1 f k at.3 at.4)) here)
+            (λ none. blank_new f k (behind, here) none)
+            (stands_or fresh f k))
             (cases_lt k (file_page_count (infos f)))
 
         stands_then : StandsFor (files_in_pool m directory.pages n) sectors later after image
@@ -385,9 +401,9 @@ module _ (n : ℕ) (directory : Directory) (on : IsDirectoryOn n directory) (cha
     -- the files are those of after
     pub stands_after : (image : Image) → IsKept (pool m n) sectors mid (StandsForPages (pool m n) After) image
         → (files : ℕ → Option FileInfo) (before after : ℕ → ℕ → List ℕ) → StandsFor (files_in_pool m directory.pages n) sectors files before old
-        → ChangesFiles files changes list given before after → StandsFor (files_in_pool m directory.pages n) sectors (files_after files changes) after image
+        → ChangesFiles files changes fresh list given before after → StandsFor (files_in_pool m directory.pages n) sectors (files_after files changes) after image
     stands_after image kept files before after was becomes =
         let same : infos ≡ files = λ t f. files_are files before was f t in
-        let here : ChangesFiles infos changes list given before after = subst (λ (g : ℕ → Option FileInfo). ChangesFiles g changes list given before after) (sym same) becomes in
+        let here : ChangesFiles infos changes fresh list given before after = subst (λ (g : ℕ → Option FileInfo). ChangesFiles g changes fresh list given before after) (sym same) becomes in
         let was_here : StandsFor (files_in_pool m directory.pages n) sectors infos before old = subst (λ (g : ℕ → Option FileInfo). StandsFor (files_in_pool m directory.pages n) sectors g before old) (sym same) was in
         subst (λ (g : ℕ → Option FileInfo). StandsFor (files_in_pool m directory.pages n) sectors (files_after g changes) after image) same (stands_then image kept before after was_here here)

@@ -8,8 +8,8 @@ use Rattle.directories.specs.{Homes.{HasHome}, Layouts.{entry_in, IsGoodLayout},
 use Rattle.growth.specs.{Changes.{change_of, entry_then, AreChanges, TakesFreeHomes}, Refusals.{IsChangeRefused}, declared.changes.Change.{Change}, declared.faults.ChangeFault.{ChangeFault}}
 use Rattle.growth.specs.declared.faults.ChangeFault.TheVariants.{Outside, Short, Shared, Taken}
 use Rattle.growth.proofs.{Changed.{HasChange, IsChanged, Rise, length_after, entry_there, file_after, change_there, entry_of_change}}
-use Rattle.pool_growth.specs.{Asked.{changed_pages, entries_then, is_changed, AreFileChanges, AreKeptPages}, Files.{files_after, info_then, file_page_count}}
-use Rattle.pool_growth.specs.Checks.{AllKeepHomes, AreAllKept, HasAllEnds, HasBadChange, HasEnd, HasKeptHomes, IsKeptPage, IsSmallChange, ListsEnd, MovesPage, PrecedesPage}
+use Rattle.pool_growth.specs.{Asked.{changed_pages, entries_then, is_changed, AreFileChanges, AreKeptPages, AreNewPages}, Files.{files_after, info_then, file_page_count, IsNewPage}}
+use Rattle.pool_growth.specs.Checks.{AllKeepHomes, AreAllKept, AreAllNew, HasAllEnds, HasBadChange, HasEnd, HasKeptHomes, IsKeptPage, IsSmallChange, ListsEnd, MovesPage, PrecedesPage}
 use Rattle.pool_growth.proofs.Fronts.{keeps_there, has_kept, moves_page}
 use Rattle.pool_journal.specs.{Journal.{free_count}, Maps.{entries_of}}
 use Rattle.pool_store.specs.{Files.{info_of}, Pools.{HaveBounds}, Store.{entry_of, info_by, IsDirectoryOn}, declared.{directory.Directory.{Directory}, store.PoolStore.{PoolStore}}}
@@ -183,6 +183,13 @@ module _ {D : Type 0} (store : PoolStore D) (changes : List Change) (list : List
     distinct = λ i j p less one two. twice list i j p rise less one two;
     ends = ends;
   }
+
+-- New ones where each is new, and they rise.
+pub are_new : (directory : Directory) (changes : List Change) (fresh : List FilePage) → AreAllNew directory changes fresh → AllPairs PrecedesPage fresh → AreNewPages (info_by directory) changes fresh
+are_new directory changes fresh new rise = record {
+  new = λ i p is. of_all (λ (q : FilePage). IsNewPage (info_by directory) changes q.file q.page) fresh i p new is;
+  distinct = λ i j p less one two. twice fresh i j p rise less one two;
+}
 
 -- Ends of files that are changed:
 abbrev pub EndsAt : Directory → List Change → List FilePage → ℕ → Change → Type 0

@@ -1,18 +1,18 @@
 -- A commit of changes: new pages where they are to stand, and then what goes into slots.
-use Rattle.std.proofs.Common.{◌≡◌, ◌⊎◌, ◌≤◌, ◌<◌, ◌+◌, ◌-◌, ◌*◌, ◌++◌, ◌∷◌, [], ℕ, zero, suc, Bool, true, false, List, Option, Result, Ok, Err, OnOk, IsErr, IsErrAnd, length, map, get_or, vec_capacity, refl, sym, ap, subst, ◌∙◌, ⊎_elim, inl, inr, arith, if◌then◌else◌}
-use Rattle.std.proofs.lemmas.{Bool.{and_right, cases_Bool, cases_lt, cond-true, cond-false, lt-leb}, List.{length-append}, Result.{on_ok_weaker}}
+use Rattle.std.proofs.Common.{◌≡◌, ◌⊎◌, ◌≤◌, ◌<◌, ◌+◌, ◌-◌, ◌*◌, ◌++◌, ◌∷◌, [], ℕ, zero, suc, Bool, true, false, List, Option, Some, Result, Ok, Err, OnOk, IsErr, IsErrAnd, length, map, get_or, vec_capacity, refl, sym, ap, subst, ◌∙◌, ⊎_elim, inl, inr, arith, if◌then◌else◌}
+use Rattle.std.proofs.lemmas.{Bool.{and_right, cases_Bool, cases_lt, cond-true, cond-false, lt-leb, ltb-false}, List.{length-append}, Option.{slice_get_within}, Result.{on_ok_weaker}}
 use Rattle.std.specs.{List.Sorted.{IsPermutation, IsNonDecreasingBy}, Prelude.{nat_le}}
 use Rattle.vm_types.specs.declared.{file.FileInfo.{FileInfo}, file.FilePage.{FilePage}}
-use Rattle.disk_model.{proofs.Moments.{asks_once, asks_then, asks_wider, joined, then, weaker, wider}, specs.{Moments.{AsksOnly, LeavesNow, LeavesOnly, Touches}, Stop.{Image}, declared.sector_disk.SectorDisk.{Ghosts}}}
+use Rattle.disk_model.{proofs.Moments.{asks_then, asks_wider, joined, then, weaker, wider}, specs.{Moments.{AsksOnly, LeavesNow, LeavesOnly, Touches}, Stop.{Image}, declared.sector_disk.SectorDisk.{Ghosts}}}
 use Rattle.directories.{proofs.Owned.{gives_homes}, specs.{Kinds.{IsDirectorySize, IsKind}, declared.entry.Entry.{Entry}}}
 use Rattle.file_store.{proofs.Reading.{has_content}, specs.Asking.{asks_more}}
 use Rattle.growth.specs.declared.changes.Change.{Change}
-use Rattle.pool_growth.proofs.{After.{said_then, stands_after, stands_before}, Directory.{are_changed}, Ordering.{are_placed_then, ArePlacedThen}, Slotted.{both_rise, each_of_both, late_staged}}
-use Rattle.pool_growth.specs.{Asked.{changed_pages, entries_then, is_changed, AreFileChanges, AreKeptPages}, Commit.{ChangesInBlocks, CommitsChanges, IsChangeAsked, IsChangedSector, StandsForOneOf}, Files.{added_count, files_after, ChangesFiles}, Front.{AreChangedPages}, Late.{take_slots, given_homes, given_places, late_homes, late_page, put_count, slot_count, IsGiven}, declared.front.ChangeRoom.{ChangeRoom}}
-use Rattle.pool_growth.specs.Putting.{IsNewHome, IsNewSector, IsPutSector, LeavesOtherHomes, PutsNewPages}
+use Rattle.pool_growth.proofs.{After.{said_then, stands_after, stands_before}, Directory.{are_changed}, Numbered.{all_fresh}, Ordering.{are_placed_then, ArePlacedThen}, Slotted.{both_rise, each_of_both, late_staged}}
+use Rattle.pool_growth.specs.{Asked.{changed_pages, entries_then, is_changed, AreFileChanges, AreKeptPages, AreNewPages}, Commit.{ChangesInBlocks, CommitsChanges, IsChangeAsked, IsChangedSector, StandsForOneOf}, Files.{added_count, files_after, ChangesFiles}, Front.{AreChangedPages}, Late.{take_slots, given_homes, given_places, late_homes, late_page, put_count, slot_count, IsGiven}, declared.front.ChangeRoom.{ChangeRoom}}
+use Rattle.pool_growth.specs.Putting.{home_then, is_sparse, IsBroughtSector, IsNewHome, IsNewSector, LeavesOtherHomes, OthersAreBlank, PutsNewPages}
 use Rattle.pool_journal.{proofs.Free.{free_most}, specs.{Committing.{CommitsInPool, IsPoolStaged}, Gates.{IsPoolGate}, Giving.{AreRising}, Journal.{free_count, IsPoolJournal}, Maps.{entries_of}, Pools.{pool, pool_gate, pool_home, pool_home_count, pool_standing, IsLoose, IsPoolRest}, Sizes.{HasPool}}}
 use Rattle.pool_journal.specs.declared.{pool.PoolJournal.{PoolJournal}, sizes.PoolSizes.{PoolSizes}}
-use Rattle.pool_store.{proofs.Ready.{in_blocks_weaker}, specs.{Files.{StandsFor}, Places.{index_at}, Pools.{AreEntries, AreSaid, files_in_pool, pool_mark}, Store.{HasCommitRoom, IsDirectoryOn, IsReadyPool, info_by}}}
+use Rattle.pool_store.{proofs.{Ordered.{page_is}, Ready.{in_blocks_weaker}}, specs.{Files.{StandsFor}, Places.{index_at, number_of}, Pools.{AreEntries, AreSaid, files_in_pool, pool_mark}, Store.{HasCommitRoom, IsDirectoryOn, IsReadyPool, info_by}}}
 use Rattle.pool_store.specs.declared.{directory.Directory.{Directory}, room.{CommitRoom.{CommitRoom}, Place.{Place}}, store.PoolStore.{PoolStore}}
 use Rattle.sync_journal.proofs.{Causes.{told_on}, Shared.{blocks_weaker}}
 use Rattle.sync_journal.specs.{Blocks.{LeavesInBlocks}, Commit.{changed}, Committing.{HomesStandOr}, Layouts.{HomesStandAs, IsKept, StandsForPages}, Source.{Asks, HasCauses}}
@@ -45,38 +45,38 @@ told_as fault (Ok done) is = absurd is
 told_as fault (Err e) is = ap Err (sym is)
 
 -- How many new pages are put where they are to stand:
-module _ {D : Type 0} (store : PoolStore D) (changes : List Change) (list : List FilePage) where
+module _ {D : Type 0} (store : PoolStore D) (changes : List Change) (fresh list : List FilePage) where
   abbrev free : ℕ
   free = free_count store.journal.sizes.blocks (entries_of store.journal.map)
 
   abbrev added : ℕ
-  added = added_count (info_by store.directory) changes
+  added = length fresh
 
   abbrev all : ℕ
-  all = slot_count store.directory changes list 0
+  all = slot_count store.directory changes fresh list 0
 
   abbrev takes : Bool
-  takes = take_slots store changes list
+  takes = take_slots store changes fresh list
 
   -- all, where slots are free for what is committed beside them, or none, where they are free for all of it;
-  put_all_or_none : (put : ℕ) → put ≡ put_count store changes list → (put ≡ added_count (info_by store.directory) changes) ⊎ ((put ≡ 0) × (slot_count store.directory changes list 0 ≤ free))
+  put_all_or_none : (put : ℕ) → put ≡ put_count store changes fresh list → (put ≡ length fresh) ⊎ ((put ≡ 0) × (slot_count store.directory changes fresh list 0 ≤ free))
   put_all_or_none put is = ⊎_elim
       (λ more. inl (is ∙ cond-false takes 0 added (and_right (nat_le added 128) (nat_le all free) (lt-leb all free more))))
       (λ fit. ⊎_elim (λ yes. inr (is ∙ cond-true takes 0 added yes, fit)) (λ no. inl (is ∙ cond-false takes 0 added no)) (cases_Bool takes))
       (cases_lt free all)
 
   -- so they are new ones,
-  pub put_low : (put : ℕ) → put ≡ put_count store changes list → put ≤ added_count (info_by store.directory) changes
+  pub put_low : (put : ℕ) → put ≡ put_count store changes fresh list → put ≤ length fresh
   put_low put is = ⊎_elim (λ all. omega (arith, all)) (λ none. (let nothing = none.0 in omega (arith, nothing))) (put_all_or_none put is)
 
   -- and what goes into slots has them.
-  pub put_fits : (put : ℕ) → put ≡ put_count store changes list → AreKeptPages store changes list → slot_count store.directory changes list put ≤ free
+  pub put_fits : (put : ℕ) → put ≡ put_count store changes fresh list → AreKeptPages store changes list → slot_count store.directory changes fresh list put ≤ free
   put_fits put is kept = ⊎_elim
       (λ all. (let few = kept.few in omega (arith, all, few)))
-      (λ none. subst (λ n. slot_count store.directory changes list n ≤ free) (sym none.0) none.1)
+      (λ none. subst (λ n. slot_count store.directory changes fresh list n ≤ free) (sym none.0) none.1)
       (put_all_or_none put is)
 
-  pub late_few : (put : ℕ) → put ≡ put_count store changes list → AreKeptPages store changes list → slot_count store.directory changes list put ≤ 1008 * store.journal.sizes.blocks
+  pub late_few : (put : ℕ) → put ≡ put_count store changes fresh list → AreKeptPages store changes list → slot_count store.directory changes fresh list put ≤ 1008 * store.journal.sizes.blocks
   late_few put is kept = let most = free_most store.journal.sizes.blocks (entries_of store.journal.map) in let few = put_fits put is kept in omega (arith, most, few)
 
   pub list_few : AreKeptPages store changes list → length list ≤ 1008 * store.journal.sizes.blocks
@@ -88,33 +88,33 @@ pub room_stays : {D : Type 0} (store : PoolStore D) (room : CommitRoom) → HasC
 room_stays store room has same = (omega (arith, has.0, same.0), omega (arith, has.1, same.1))
 
 -- What a commit lists for slots:
-pub record AreLate (directory : Directory) (changes : List Change) (list : List FilePage) (put : ℕ) (places : List Place) (front : List (List ℕ)) (homes : List ℕ) : Type 0 where
+pub record AreLate (directory : Directory) (changes : List Change) (fresh list : List FilePage) (put : ℕ) (places : List Place) (front : List (List ℕ)) (homes : List ℕ) : Type 0 where
   -- pages of files, by their homes,
-  pub placed : ArePlacedThen directory changes list put places (map (λ place. place.home) places)
+  pub placed : ArePlacedThen directory changes fresh list put places (map (λ place. place.home) places)
   -- the changed pages of the directory,
   pub fronts : AreChangedPages directory changes front
   -- and the homes of both.
   pub homes_are : homes ≡ late_homes directory changes places
 
 -- places in order, and the lists of a room
-pub are_late : {D : Type 0} (store : PoolStore D) (changes : List Change) (list : List FilePage) → IsDirectoryOn store.journal.sizes.homes store.directory
-    → AreFileChanges store.journal.sizes.homes store.directory changes → AreKeptPages store changes list
-    → (put : ℕ) (firsts : List Place) → IsPermutation (given_places store.directory changes list put) firsts → IsNonDecreasingBy (λ (place : Place). place.home) firsts
+pub are_late : {D : Type 0} (store : PoolStore D) (changes : List Change) (fresh list : List FilePage) → IsDirectoryOn store.journal.sizes.homes store.directory
+    → AreFileChanges store.journal.sizes.homes store.directory changes → AreNewPages (info_by store.directory) changes fresh → AreKeptPages store changes list
+    → (put : ℕ) (firsts : List Place) → IsPermutation (given_places store.directory changes fresh list put) firsts → IsNonDecreasingBy (λ (place : Place). place.home) firsts
     → (places : List Place) → places ≡ firsts
     → (listed room : ChangeRoom) → listed.homes.items ≡ changed_pages changes store.directory.pages → AreChangedPages store.directory changes listed.pages.items
     → room.homes.items ≡ listed.homes.items ++ map (λ place. place.home) places → room.pages ≡ listed.pages
-    → (front : List (List ℕ)) (homes : List ℕ) → front ≡ room.pages.items → homes ≡ room.homes.items → AreLate store.directory changes list put places front homes
-are_late store changes list on are kept put firsts order rising places is listed room changed pages all same front homes front_is homes_are =
+    → (front : List (List ℕ)) (homes : List ℕ) → front ≡ room.pages.items → homes ≡ room.homes.items → AreLate store.directory changes fresh list put places front homes
+are_late store changes fresh list on are given kept put firsts order rising places is listed room changed pages all same front homes front_is homes_are =
     let directory = store.directory in
     record {
-      placed = subst (λ (xs : List Place). ArePlacedThen directory changes list put xs (map (λ (place : Place). place.home) xs)) (sym is)
-          (are_placed_then store.journal.sizes.homes directory on changes are list kept.before kept.after kept.distinct put firsts order rising);
+      placed = subst (λ (xs : List Place). ArePlacedThen directory changes fresh list put xs (map (λ (place : Place). place.home) xs)) (sym is)
+          (are_placed_then store.journal.sizes.homes directory on changes are fresh given list kept.before kept.after kept.distinct put firsts order rising);
       fronts = subst (λ (pages : List (List ℕ)). AreChangedPages directory changes pages) (sym (front_is ∙ ap (λ pages. pages.items) same)) pages;
       homes_are = homes_are ∙ all ∙ ap (λ (own : List ℕ). own ++ map (λ (place : Place). place.home) places) changed;
     }
 
-module _ (n : ℕ) (directory : Directory) (on : IsDirectoryOn n directory) (changes : List Change) (are : AreFileChanges n directory changes) (list : List FilePage) (put : ℕ)
-    (places : List Place) (front : List (List ℕ)) (homes : List ℕ) (late : AreLate directory changes list put places front homes) where
+module _ (n : ℕ) (directory : Directory) (on : IsDirectoryOn n directory) (changes : List Change) (are : AreFileChanges n directory changes) (fresh list : List FilePage) (put : ℕ)
+    (places : List Place) (front : List (List ℕ)) (homes : List ℕ) (late : AreLate directory changes fresh list put places front homes) where
   abbrev own : List ℕ
   own = changed_pages changes directory.pages
 
@@ -137,12 +137,12 @@ module _ (n : ℕ) (directory : Directory) (on : IsDirectoryOn n directory) (cha
       (λ j below. (let less = (are_changed changes directory.pages j below).0 in let inside = on.inside in omega (arith, less, inside))) (λ j below. (behind j below).1))
 
   -- and there are so many.
-  pub late_long : length homes ≡ slot_count directory changes list put
+  pub late_long : length homes ≡ slot_count directory changes fresh list put
   late_long = let both = ap (λ (xs : List ℕ). length xs) late.homes_are in let long = length-append own others in let size = late.placed.size in omega (arith, both, long, size)
 
   -- a source that gives its pages from `put` on gives all of it
-  pub late_gives : put ≤ added_count (info_by directory) changes → (Gives : ℕ → Type 0) → ((i : ℕ) → i < added_count (info_by directory) changes + length list → Gives i)
-      → (j : ℕ) → j < length homes → (j < length front + length places) × (length front ≤ j → IsGiven directory changes list (put + index_at places (j - length front)) × Gives (put + index_at places (j - length front)))
+  pub late_gives : put ≤ length fresh → (Gives : ℕ → Type 0) → ((i : ℕ) → i < length fresh + length list → Gives i)
+      → (j : ℕ) → j < length homes → (j < length front + length places) × (length front ≤ j → IsGiven directory changes fresh list (put + index_at places (j - length front)) × Gives (put + index_at places (j - length front)))
   late_gives low Gives gives j below =
       let long = late_long in
       let as_many = late.fronts.long in
@@ -152,7 +152,7 @@ module _ (n : ℕ) (directory : Directory) (on : IsDirectoryOn n directory) (cha
         λ from. (
             let k : ℕ = j - length front in
             let inside = late.placed.inside k (omega (arith, long, as_many, size, below, from)) in
-            let within : put + index_at places k < added_count (info_by directory) changes + length list = omega (arith, inside, low) in
+            let within : put + index_at places k < length fresh + length list = omega (arith, inside, low) in
             (((n, are), within), gives (put + index_at places k) within)),
       )
 
@@ -200,8 +200,8 @@ pub record GivesLate {S L : Type 0} (s : SourceGhosts S) (l : SourceGhosts L) (p
   -- and asks it for pages alone.
   pub asks : Asks s from left
 
-module _ {D S : Type 0} (g : Ghosts D) (s : SourceGhosts S) (store : PoolStore D) (changes : List Change) (list : List FilePage) (from : S)
-    (ready : IsReadyPool g store) (are : AreFileChanges store.journal.sizes.homes store.directory changes) (put : ℕ) (is_put : put ≡ put_count store changes list) where
+module _ {D S : Type 0} (g : Ghosts D) (s : SourceGhosts S) (store : PoolStore D) (changes : List Change) (fresh list : List FilePage) (from : S)
+    (ready : IsReadyPool g store) (are : AreFileChanges store.journal.sizes.homes store.directory changes) (new_ones : AreNewPages (info_by store.directory) changes fresh) (put : ℕ) (is_put : put ≡ put_count store changes fresh list) where
   abbrev m : ℕ
   m = store.journal.sizes.blocks
 
@@ -221,18 +221,15 @@ module _ {D S : Type 0} (g : Ghosts D) (s : SourceGhosts S) (store : PoolStore D
   abbrev IsNew : ℕ → Type 0
   IsNew = IsNewSector store.journal store.directory changes
 
-  abbrev IsPut : ℕ → Type 0
-  IsPut = IsPutSector store.journal store.directory changes put
+  abbrev IsBrought : ℕ → Type 0
+  IsBrought = IsBroughtSector store.journal store.directory changes fresh put
 
-  low : put ≤ added_count (info_by store.directory) changes
-  low = put_low store changes list put is_put
+  low : put ≤ length fresh
+  low = put_low store changes fresh list put is_put
 
-  -- where new pages are put is where new pages stand, and is asked for
-  put_new : (k : ℕ) → IsPut k → IsChangedSector store changes k
-  put_new k at = inl (at.0, (let below = at.1 in omega (arith, below, low)), at.2)
-
-  put_asked : (k : ℕ) → IsPut k → IsChangeAsked store changes list k
-  put_asked k at = inl (subst (λ count. IsPutSector store.journal store.directory changes count k) is_put at)
+  -- what is brought is asked for
+  brought_asked : (k : ℕ) → IsBrought k → IsChangeAsked store changes fresh list k
+  brought_asked k at = inl (subst (λ count. IsBroughtSector store.journal store.directory changes fresh count k) is_put at)
 
   abbrev Stands : (ℕ → Option FileInfo) → (ℕ → ℕ → List ℕ) → Image → Type 0
   Stands = StandsFor (files_in_pool m store.directory.pages n) sectors
@@ -247,7 +244,7 @@ module _ {D S : Type 0} (g : Ghosts D) (s : SourceGhosts S) (store : PoolStore D
   as_before keeps files before left image others = stands_before n store.directory ready.is_directory changes are m sectors old (said keeps) image others files before (has_content g store.disk (Stands files before) left)
 
   -- New pages are put.
-  module _ (mid : D) (between : S) (told : Result (Unit {0}) CommitFault) (puts : PutsNewPages g s store.journal store.directory changes put store.disk mid from between told) where
+  module _ (mid : D) (between : S) (told : Result (Unit {0}) CommitFault) (puts : PutsNewPages g s store.journal store.directory changes fresh put store.disk mid from between told) where
     put_moments : g.keeps_model mid → (files : ℕ → Option FileInfo) (before : ℕ → ℕ → List ℕ) → LeavesNow g store.disk (Stands files before) → LeavesOnly g store.disk mid (Stands files before)
     put_moments keeps files before left = weaker g store.disk mid Others (Stands files before) (as_before (puts.kept keeps) files before left) (puts.any_moment keeps)
 
@@ -255,8 +252,8 @@ module _ {D S : Type 0} (g : Ghosts D) (s : SourceGhosts S) (store : PoolStore D
     put_blocks keeps files before after left = blocks_weaker g IsNew Others (OneOf files before after) store.disk mid (λ image others. inl (as_before (puts.kept keeps) files before left image others)) (puts.blocks keeps)
 
   -- A fault was told.
-  pub not_put : (mid : D) (between : S) (fault : CommitFault) → PutsNewPages g s store.journal store.directory changes put store.disk mid from between (Err fault)
-      → (result : Result (Unit {0}) CommitFault) → IsErrAnd result (λ e. e ≡ fault) → CommitsChanges g s store (record { disk = mid; journal = store.journal; directory = store.directory; room = store.room }) changes list from between result
+  pub not_put : (mid : D) (between : S) (fault : CommitFault) → PutsNewPages g s store.journal store.directory changes fresh put store.disk mid from between (Err fault)
+      → (result : Result (Unit {0}) CommitFault) → IsErrAnd result (λ e. e ≡ fault) → CommitsChanges g s store (record { disk = mid; journal = store.journal; directory = store.directory; room = store.room }) changes fresh list from between result
   not_put mid between fault puts (Ok done) is = absurd is
   not_put mid between fault puts (Err e) is = record {
     ok = λ keeps given files before after left change. tt;
@@ -273,18 +270,18 @@ module _ {D S : Type 0} (g : Ghosts D) (s : SourceGhosts S) (store : PoolStore D
     size = puts.size;
     kept = puts.kept;
     asks = puts.asks;
-    asks_device = asks_once g (IsChangeAsked store changes list) IsPut store.disk mid put_asked puts.once;
-    touches = λ keeps. wider g IsPut (IsChangedSector store changes) store.disk mid put_new (puts.touches keeps);
+    asks_device = asks_wider g IsBrought (IsChangeAsked store changes fresh list) store.disk mid brought_asked puts.asks_device;
+    touches = λ keeps. wider g IsNew (IsChangedSector store changes) store.disk mid (λ k at. inl at) (puts.touches keeps);
     causes = told_on (g.failures store.disk) (g.failures mid) (s.failures from) (s.failures between) fault (Err e) is puts.causes;
   }
 
   -- They are, and the rest is committed.
-  module _ (kept : AreKeptPages store changes list) (mid : D) (between : S) (puts : PutsNewPages g s store.journal store.directory changes put store.disk mid from between (Ok (tt {0})))
-      (places : List Place) (front : List (List ℕ)) (homes : List ℕ) (lists : AreLate store.directory changes list put places front homes)
+  module _ (kept : AreKeptPages store changes list) (mid : D) (between : S) (puts : PutsNewPages g s store.journal store.directory changes fresh put store.disk mid from between (Ok (tt {0})))
+      (places : List Place) (front : List (List ℕ)) (homes : List ℕ) (lists : AreLate store.directory changes fresh list put places front homes)
       {L : Type 0} (l : SourceGhosts L) (left : S) (late spent : L)
-      (gives : GivesLate s l (late_page store.directory changes list front places put) between left late spent) where
+      (gives : GivesLate s l (late_page store.directory changes fresh list front places put) between left late spent) where
     abbrev Pages : (ℕ → List ℕ) → ℕ → List ℕ
-    Pages = late_page store.directory changes list front places put
+    Pages = late_page store.directory changes fresh list front places put
 
     abbrev all_homes : List ℕ
     all_homes = late_homes store.directory changes places
@@ -292,11 +289,22 @@ module _ {D S : Type 0} (g : Ghosts D) (s : SourceGhosts S) (store : PoolStore D
     abbrev After : (ℕ → List ℕ) → ℕ → ℕ → List ℕ
     After pages = changed (pool_standing m n (g.content mid)) all_homes pages
 
-    all_long : length all_homes ≡ slot_count store.directory changes list put
-    all_long = sym (ap (λ (hs : List ℕ). length hs) lists.homes_are) ∙ late_long n store.directory ready.is_directory changes are list put places front homes lists
+    all_long : length all_homes ≡ slot_count store.directory changes fresh list put
+    all_long = sym (ap (λ (hs : List ℕ). length hs) lists.homes_are) ∙ late_long n store.directory ready.is_directory changes are fresh list put places front homes lists
 
     beside : g.keeps_model mid → Others (g.content mid)
     beside keeps = let run = puts.blocks keeps in run.each mid run.writes (g.content mid) (record { kept = λ k. inr refl })
+
+    -- New pages that are not given are zeros, where there are some.
+    are_blank : g.keeps_model mid → OthersAreBlank m n store.directory changes fresh (length fresh) (g.content mid)
+    are_blank keeps h j its other small = ⊎_elim
+        (λ sparse. puts.blanks keeps sparse h j its (λ i below. other i (omega (arith, below, low))) small)
+        (λ none.
+        let all : added_count (info_by store.directory) changes ≤ length fresh = ltb-false (length fresh) (added_count (info_by store.directory) changes) none in
+        let at = all_fresh (info_by store.directory) changes fresh new_ones all its.0.file its.0.page its.1 in
+        absurd (other at.0 (slice_get_within fresh at.0 at.1 at.2)
+        (ap (λ (o : Option FilePage). number_of (home_then store.directory changes o)) (at.2 ∙ ap Some (page_is at.1 its.0.file its.0.page at.3 at.4)) ∙ ap number_of its.2)))
+        (cases_Bool (is_sparse store.directory changes fresh))
 
     -- what the source gives it gave from the beginning
     pages_are : s.keeps_model left → l.pages late ≡ Pages (s.pages from)
@@ -311,18 +319,18 @@ module _ {D S : Type 0} (g : Ghosts D) (s : SourceGhosts S) (store : PoolStore D
         → IsKept (pool m n) sectors (g.content mid) (StandsForPages (pool m n) (After (Pages (s.pages from)))) image
     has_rest given count image alike = record { stands = record { each = λ h i below. alike.stands.each h i below ∙ ap (λ pages. After pages h i) (pages_are given) }; journal = λ bad. bad; outside = alike.outside }
 
-    as_after : g.keeps_model mid → s.keeps_model left → (files : ℕ → Option FileInfo) (before after : ℕ → ℕ → List ℕ) → LeavesNow g store.disk (Stands files before) → ChangesFiles files changes list (s.pages from) before after
+    as_after : g.keeps_model mid → s.keeps_model left → (files : ℕ → Option FileInfo) (before after : ℕ → ℕ → List ℕ) → LeavesNow g store.disk (Stands files before) → ChangesFiles files changes fresh list (s.pages from) before after
         → (count : ℕ) (image : Image) → IsKept (pool m n) count (g.content mid) (StandsForPages (pool m n) (After (l.pages late))) image → Stands (files_after files changes) after image
-    as_after keeps given files before after now change count image alike = stands_after n store.directory ready.is_directory changes are m sectors old (said (puts.kept keeps)) list kept.ends put low
-        places (map (λ place. place.home) places) lists.placed front lists.fronts (s.pages from) (g.content mid) (beside keeps) (puts.puts keeps (gives.asks.kept given)) image
+    as_after keeps given files before after now change count image alike = stands_after n store.directory ready.is_directory changes are m sectors old (said (puts.kept keeps)) fresh new_ones list kept.ends put low
+        places (map (λ place. place.home) places) lists.placed front lists.fronts (s.pages from) (g.content mid) (beside keeps) (puts.puts keeps (gives.asks.kept given)) (are_blank keeps) image
         (has_rest given count image alike) files before after (has_content g store.disk (Stands files before) now) change
 
     says_after : g.keeps_model mid → s.keeps_model left → (count : ℕ) (image : Image) → IsKept (pool m n) count (g.content mid) (StandsForPages (pool m n) (After (l.pages late))) image
         → AreSaid store.directory.pages (pool_standing m n image) (entries_then store.directory changes)
-    says_after keeps given count image alike = said_then n store.directory ready.is_directory changes are m sectors old (said (puts.kept keeps)) list kept.ends put low
-        places (map (λ place. place.home) places) lists.placed front lists.fronts (s.pages from) (g.content mid) (beside keeps) (puts.puts keeps (gives.asks.kept given)) image (has_rest given count image alike)
+    says_after keeps given count image alike = said_then n store.directory ready.is_directory changes are m sectors old (said (puts.kept keeps)) fresh new_ones list kept.ends put low
+        places (map (λ place. place.home) places) lists.placed front lists.fronts (s.pages from) (g.content mid) (beside keeps) (puts.puts keeps (gives.asks.kept given)) (are_blank keeps) image (has_rest given count image alike)
 
-    as_one : g.keeps_model mid → s.keeps_model left → (files : ℕ → Option FileInfo) (before after : ℕ → ℕ → List ℕ) → LeavesNow g store.disk (Stands files before) → ChangesFiles files changes list (s.pages from) before after
+    as_one : g.keeps_model mid → s.keeps_model left → (files : ℕ → Option FileInfo) (before after : ℕ → ℕ → List ℕ) → LeavesNow g store.disk (Stands files before) → ChangesFiles files changes fresh list (s.pages from) before after
         → (image : Image) → HomesStandOr (pool m n) (g.sector_count mid) all_homes (l.pages late) (g.content mid) image → OneOf files before after image
     as_one keeps given files before after now change image alike = ⊎_elim
         (λ stands. inl (as_before (puts.kept keeps) files before now image (still keeps (g.sector_count mid) image (record { stands = stands; journal = alike.journal; outside = alike.outside }))))
@@ -341,25 +349,25 @@ module _ {D S : Type 0} (g : Ghosts D) (s : SourceGhosts S) (store : PoolStore D
 
       touches : g.keeps_model new → Touches g (IsChangedSector store changes) store.disk new
       touches keeps = (then) g (IsChangedSector store changes) store.disk mid new
-          (wider g IsPut (IsChangedSector store changes) store.disk mid put_new (puts.touches (commits.kept keeps)))
+          (wider g IsNew (IsChangedSector store changes) store.disk mid (λ k at. inl at) (puts.touches (commits.kept keeps)))
           (wider g (λ k. IsPoolGate k ⊎ IsLoose m store.journal.second (entries_of store.journal.map) k) (IsChangedSector store changes) mid new (λ k loose. inr loose) (commits.touches keeps))
 
-      asks_device : AsksOnly g (IsChangeAsked store changes list) store.disk new
-      asks_device = asks_then g (IsChangeAsked store changes list) store.disk mid new (asks_once g (IsChangeAsked store changes list) IsPut store.disk mid put_asked puts.once)
-          (asks_wider g (λ k. IsPoolGate k ⊎ IsPoolStaged m store.journal.second (entries_of store.journal.map) all_homes k) (IsChangeAsked store changes list) mid new
-          (λ k. ⊎_elim (λ gate. inr (inl gate)) (λ staged. inr (inr (subst (λ count. IsPoolStaged m store.journal.second (entries_of store.journal.map) (given_homes store.directory changes list count) k) is_put
-          (late_staged n store.directory changes are list put places lists.placed m store.journal.second (entries_of store.journal.map) k staged))))) commits.asks_device)
+      asks_device : AsksOnly g (IsChangeAsked store changes fresh list) store.disk new
+      asks_device = asks_then g (IsChangeAsked store changes fresh list) store.disk mid new (asks_wider g IsBrought (IsChangeAsked store changes fresh list) store.disk mid brought_asked puts.asks_device)
+          (asks_wider g (λ k. IsPoolGate k ⊎ IsPoolStaged m store.journal.second (entries_of store.journal.map) all_homes k) (IsChangeAsked store changes fresh list) mid new
+          (λ k. ⊎_elim (λ gate. inr (inl gate)) (λ staged. inr (inr (subst (λ count. IsPoolStaged m store.journal.second (entries_of store.journal.map) (given_homes store.directory changes fresh list count) k) is_put
+          (late_staged n store.directory changes are fresh list put places lists.placed m store.journal.second (entries_of store.journal.map) k staged))))) commits.asks_device)
 
-      leaves_room : OnOk result (slot_count store.directory changes list (put_count store changes list) ≤ 504 * m → 504 * m ≤ free_count m (entries_of journal.map))
-      leaves_room = on_ok_weaker result (λ enough few. (let as_many = ap (slot_count store.directory changes list) is_put in enough (omega (arith, few, all_long, as_many)))) commits.room
+      leaves_room : OnOk result (slot_count store.directory changes fresh list (put_count store changes fresh list) ≤ 504 * m → 504 * m ≤ free_count m (entries_of journal.map))
+      leaves_room = on_ok_weaker result (λ enough few. (let as_many = ap (slot_count store.directory changes fresh list) is_put in enough (omega (arith, few, all_long, as_many)))) commits.room
 
-      moments : g.keeps_model new → s.keeps_model left → (files : ℕ → Option FileInfo) (before after : ℕ → ℕ → List ℕ) → LeavesNow g store.disk (Stands files before) → ChangesFiles files changes list (s.pages from) before after
+      moments : g.keeps_model new → s.keeps_model left → (files : ℕ → Option FileInfo) (before after : ℕ → ℕ → List ℕ) → LeavesNow g store.disk (Stands files before) → ChangesFiles files changes fresh list (s.pages from) before after
           → LeavesOnly g store.disk new (OneOf files before after)
       moments keeps given files before after now change = joined g store.disk mid new (OneOf files before after)
           (weaker g store.disk mid (Stands files before) (OneOf files before after) (λ image was. inl was) (put_moments mid between (Ok (tt {0})) puts (commits.kept keeps) files before now))
           (weaker g mid new Either (OneOf files before after) (as_one (commits.kept keeps) given files before after now change) (commits.any_moment keeps (gives.keeps given)))
 
-      in_blocks : g.keeps_model new → s.keeps_model left → (files : ℕ → Option FileInfo) (before after : ℕ → ℕ → List ℕ) → LeavesNow g store.disk (Stands files before) → ChangesFiles files changes list (s.pages from) before after
+      in_blocks : g.keeps_model new → s.keeps_model left → (files : ℕ → Option FileInfo) (before after : ℕ → ℕ → List ℕ) → LeavesNow g store.disk (Stands files before) → ChangesFiles files changes fresh list (s.pages from) before after
           → ChangesInBlocks g store changes (OneOf files before after) store.disk new
       in_blocks keeps given files before after now change = inr (
         mid,
@@ -390,7 +398,7 @@ module _ {D S : Type 0} (g : Ghosts D) (s : SourceGhosts S) (store : PoolStore D
 
       are_committed : (s.follows from between → s.follows between left → s.follows from left) → HasCommitRoom m room → directory.pages ≡ store.directory.pages
           → OnOk result (directory.entries.items ≡ entries_then store.directory changes) → (IsErr result → directory ≡ store.directory)
-          → CommitsChanges g s store (record { disk = new; journal = journal; directory = directory; room = room }) changes list from left result
+          → CommitsChanges g s store (record { disk = new; journal = journal; directory = directory; room = room }) changes fresh list from left result
       are_committed goes_on has pages items same = record {
         ok = λ keeps given files before after now change. on_ok_weaker result
             (λ settled image may. as_after (commits.kept keeps) given files before after now change (g.sector_count mid) image (settled.left image may)) (commits.ok keeps (gives.keeps given));
@@ -417,9 +425,9 @@ module _ {D S : Type 0} (g : Ghosts D) (s : SourceGhosts S) (store : PoolStore D
     pub is_committed : (new : D) (journal : PoolJournal) → (told result : Result (Unit {0}) CommitFault) → told ≡ result → CommitsInPool g l store.journal journal homes mid new late spent told
         → (s.follows from between → s.follows between left → s.follows from left) → (room : CommitRoom) → HasCommitRoom m room → (directory : Directory) → directory.pages ≡ store.directory.pages
         → OnOk result (directory.entries.items ≡ entries_then store.directory changes) → (IsErr result → directory ≡ store.directory) → (end : S) → end ≡ left
-        → CommitsChanges g s store (record { disk = new; journal = journal; directory = directory; room = room }) changes list from end result
+        → CommitsChanges g s store (record { disk = new; journal = journal; directory = directory; room = room }) changes fresh list from end result
     is_committed new journal told result same commits goes_on room has directory pages items still_there end ends =
         let listed : CommitsInPool g l store.journal journal all_homes mid new late spent told = subst (λ (hs : List ℕ). CommitsInPool g l store.journal journal hs mid new late spent told) lists.homes_are commits in
         let answered : CommitsInPool g l store.journal journal all_homes mid new late spent result = subst (λ (r : Result (Unit {0}) CommitFault). CommitsInPool g l store.journal journal all_homes mid new late spent r) same listed in
-        subst (λ (left : S). CommitsChanges g s store (record { disk = new; journal = journal; directory = directory; room = room }) changes list from left result) (sym ends)
+        subst (λ (left : S). CommitsChanges g s store (record { disk = new; journal = journal; directory = directory; room = room }) changes fresh list from left result) (sym ends)
         (are_committed new journal directory room result answered goes_on has pages items still_there)

@@ -1,9 +1,9 @@
 -- Pages up to the ends of their files.
 use Rattle.std.proofs.Common.{ℕ, ◌≡◌, ◌+◌, ◌-◌, ◌*◌, ◌<◌, ◌≤◌, ◌⊎◌, ⊎_elim, List, length, get_or, take, replicate, refl, sym, ap, subst, ◌∙◌, arith, length-take, get_or-take, ext_get_or, Option, Some, None}
-use Rattle.std.proofs.lemmas.{Bool.{cases_lt}, List.{get_or_append_left, get_or-append_right, get_or_past}, Option.{none-some}}
+use Rattle.std.proofs.lemmas.{Bool.{cases_lt}, List.{drop-replicate, get_or_append_left, get_or-append_right, get_or_past, length-replicate, take-replicate}, Option.{none-some}}
 use Rattle.std.specs.Option.{option_map}
-use Rattle.vm_types.specs.{Files.{bytes_inside, inside_of}, declared.file.FileInfo.{FileInfo}}
-use Rattle.disk_model.specs.Sectors.{joined}
+use Rattle.vm_types.specs.{Files.{bytes_inside, inside_of}, View.{zero_page}, declared.file.FileInfo.{FileInfo}}
+use Rattle.disk_model.{proofs.Pieces.{joined-same, joined_parts}, specs.Sectors.{joined, part_of, sector_bytes}}
 use Rattle.directories.specs.{Homes.{HasHome}, Layouts.{entry_in}, declared.entry.Entry.{Entry}}
 use Rattle.file_store.{proofs.Pieces.{get_or-zeros, length-trimmed}, specs.{Commit.{cut_page}, Layout.{padded_page}}}
 use Rattle.pool_growth.specs.Files.{file_page_count}
@@ -28,6 +28,20 @@ cut_further less more page le small = ext_get_or 0 (padded_page less (padded_pag
     (length-trimmed less (padded_page more page) (omega (arith, le, small)) ∙ sym (length-trimmed less page (omega (arith, le, small))))
     (λ i inside. ⊎_elim (λ below. at_front less (padded_page more page) i below ∙ at_front more page i (omega (arith, below, le)) ∙ sym (at_front less page i below))
     (λ past. behind less (padded_page more page) i past ∙ sym (behind less page i past)) (cases_lt i less))
+
+-- eight sectors of zeros are a page of zeros,
+pub joined_zeros : (pieces : ℕ → List ℕ) → ((i : ℕ) → i < 8 → pieces i ≡ replicate sector_bytes 0) → joined pieces 8 ≡ zero_page
+unfolding zero_page
+joined_zeros pieces each =
+    joined-same 8 pieces (part_of zero_page) (λ i small. each i small
+    ∙ sym (ap (take 512) (drop-replicate (512 * i) 4096 0) ∙ take-replicate 512 (4096 - 512 * i) 0 (omega (arith, small))))
+    ∙ joined_parts zero_page (length-replicate {A = ℕ} 4096 0)
+
+-- which stays one where it is cut
+pub padded_zeros : (n : ℕ) → n ≤ 4096 → padded_page n zero_page ≡ zero_page
+unfolding zero_page
+padded_zeros n small = ext_get_or 0 (padded_page n zero_page) zero_page (length-trimmed n zero_page small ∙ sym (length-replicate {A = ℕ} 4096 0))
+    (λ i inside. ⊎_elim (λ below. at_front n zero_page i below) (λ past. behind n zero_page i past ∙ sym (get_or-zeros 4096 i)) (cases_lt i n))
 
 -- no more of a page lies inside a file that is not longer, or where all of it did
 pub no_more_inside : (was now k : ℕ) → (now ≤ was) ⊎ (4096 * k + 4096 ≤ was) → bytes_inside now k ≤ bytes_inside was k

@@ -1,3 +1,4 @@
+pub mod Numbered
 pub mod New
 pub mod Rest
 pub mod Cut
@@ -6,6 +7,9 @@ pub mod Directory
 pub mod Fronts
 pub mod Checked
 pub mod After
+pub mod Owning
+pub mod Blanked
+pub mod Homed
 pub mod Placed
 pub mod Applied
 pub mod Listed

@@ -6,40 +6,40 @@ use Rattle.vm_types.specs.declared.{file.FileInfo.{FileInfo}, file.FilePage.{Fil
 use Rattle.directories.specs.{Homes.{HasHome}, declared.entry.Entry.{Entry}}
 use Rattle.file_store.specs.Standing.{IsPageOf}
 use Rattle.growth.{proofs.Changed.{length_after}, specs.declared.changes.Change.{Change}}
-use Rattle.pool_growth.proofs.{Cut.{begins_inside, is_counted}, New.{entry_later, info_later, new_behind, new_once, new_there}}
-use Rattle.pool_growth.specs.{Asked.{entries_then, AreFileChanges}, Files.{added_count, files_after, given_page, new_page, HasThen}, Late.{given_home, given_place, given_places, late_count}, Putting.{home_then}}
+use Rattle.pool_growth.proofs.{Cut.{begins_inside, is_counted}, New.{entry_later, info_later}}
+use Rattle.pool_growth.specs.{Asked.{entries_then, AreFileChanges, AreNewPages}, Files.{files_after, given_page, HasThen}, Late.{given_home, given_place, given_places, late_count}, Putting.{home_then}}
 use Rattle.pool_journal.specs.Giving.{AreRising}
 use Rattle.pool_store.proofs.Ordered.{ArePlaced, are_placed, has_home, no_page, no_place, place_listed, places_long}
 use Rattle.pool_store.specs.{Places.{index_at, number_of, places_from}, Store.{home_by, home_of, info_by, IsDirectoryOn}}
 use Rattle.pool_store.specs.declared.{directory.Directory.{Directory}, room.Place.{Place}}
 
 -- Page k of those that a source gives is a new one, or one of the list.
-module _ (files : ℕ → Option FileInfo) (changes : List Change) (list : List FilePage) (k : ℕ) where
-  pub given_new : k < added_count files changes → given_page files changes list k ≡ new_page files changes k
-  given_new below = cond-true (nat_lt k (added_count files changes)) (new_page files changes k) (slice_get list (k - added_count files changes)) (lt-ltb k (added_count files changes) below)
+module _ (fresh list : List FilePage) (k : ℕ) where
+  pub given_new : k < length fresh → given_page fresh list k ≡ slice_get fresh k
+  given_new below = cond-true (nat_lt k (length fresh)) (slice_get fresh k) (slice_get list (k - length fresh)) (lt-ltb k (length fresh) below)
 
-  pub given_listed : added_count files changes ≤ k → given_page files changes list k ≡ slice_get list (k - added_count files changes)
-  given_listed past = cond-false (nat_lt k (added_count files changes)) (new_page files changes k) (slice_get list (k - added_count files changes)) (le-ltb k (added_count files changes) past)
+  pub given_listed : length fresh ≤ k → given_page fresh list k ≡ slice_get list (k - length fresh)
+  given_listed past = cond-false (nat_lt k (length fresh)) (slice_get fresh k) (slice_get list (k - length fresh)) (le-ltb k (length fresh) past)
 
 -- its place, once its home is found
-pub place_is : (directory : Directory) (changes : List Change) (list : List FilePage) (put k : ℕ) (p : FilePage) (h : ℕ) → put ≤ k → given_page (info_by directory) changes list k ≡ Some p
-    → home_then directory changes (Some p) ≡ Some h → ◌≡◌ {A = Place} (record { home = h; index = k - put }) (given_place directory changes list put (k - put))
-place_is directory changes list put k p h from is home =
+pub place_is : (directory : Directory) (changes : List Change) (fresh list : List FilePage) (put k : ℕ) (p : FilePage) (h : ℕ) → put ≤ k → given_page fresh list k ≡ Some p
+    → home_then directory changes (Some p) ≡ Some h → ◌≡◌ {A = Place} (record { home = h; index = k - put }) (given_place directory changes fresh list put (k - put))
+place_is directory changes fresh list put k p h from is home =
     let back : put + (k - put) ≡ k = omega (arith, from) in
-    let at : given_home directory changes list (put + (k - put)) ≡ h =
-    ap (given_home directory changes list) back ∙ ap (λ (o : Option FilePage). number_of (home_then directory changes o)) is ∙ ap number_of home in
+    let at : given_home directory changes fresh list (put + (k - put)) ≡ h =
+    ap (given_home directory changes fresh list) back ∙ ap (λ (o : Option FilePage). number_of (home_then directory changes o)) is ∙ ap number_of home in
     ap (λ (n : ℕ). record { home = n; index = k - put }) (sym at)
 
 -- Places are those of pages that a source gives, but for the first `put`, by their homes after changes, which are these:
-pub record ArePlacedThen (directory : Directory) (changes : List Change) (list : List FilePage) (put : ℕ) (places : List Place) (homes : List ℕ) : Type 0 where
-  pub size : length homes ≡ late_count (info_by directory) changes list put
-  pub count : length places ≡ late_count (info_by directory) changes list put
+pub record ArePlacedThen (directory : Directory) (changes : List Change) (fresh list : List FilePage) (put : ℕ) (places : List Place) (homes : List ℕ) : Type 0 where
+  pub size : length homes ≡ late_count fresh list put
+  pub count : length places ≡ late_count fresh list put
   -- each has the page of its index and that one's home,
-  pub inside : (j : ℕ) → j < length homes → index_at places j < late_count (info_by directory) changes list put
-  pub each : (j : ℕ) → j < length homes → (p : FilePage) × (given_page (info_by directory) changes list (put + index_at places j) ≡ Some p)
+  pub inside : (j : ℕ) → j < length homes → index_at places j < late_count fresh list put
+  pub each : (j : ℕ) → j < length homes → (p : FilePage) × (given_page fresh list (put + index_at places j) ≡ Some p)
       × HasHome (entries_then directory changes) p.file p.page (get_or homes j 0)
   -- every page has one,
-  pub found : (i : ℕ) → i < late_count (info_by directory) changes list put → (j : ℕ) × (j < length homes) × (index_at places j ≡ i)
+  pub found : (i : ℕ) → i < late_count fresh list put → (j : ℕ) × (j < length homes) × (index_at places j ≡ i)
   -- and the homes rise.
   pub rising : AreRising homes
 
@@ -47,7 +47,8 @@ abbrev page_or : Option FilePage → FilePage
 page_or None = no_page
 page_or (Some p) = p
 
-module _ (n : ℕ) (directory : Directory) (on : IsDirectoryOn n directory) (changes : List Change) (are : AreFileChanges n directory changes) (list : List FilePage)
+module _ (n : ℕ) (directory : Directory) (on : IsDirectoryOn n directory) (changes : List Change) (are : AreFileChanges n directory changes)
+    (fresh : List FilePage) (given : AreNewPages (info_by directory) changes fresh) (list : List FilePage)
     (before_in : (i : ℕ) (p : FilePage) → slice_get list i ≡ Some p → IsPageOf (info_by directory) p.file p.page)
     (after_in : (i : ℕ) (p : FilePage) → slice_get list i ≡ Some p → IsPageOf (files_after (info_by directory) changes) p.file p.page)
     (distinct : (i j : ℕ) (p : FilePage) → i < j → slice_get list i ≡ Some p → slice_get list j ≡ Some p → ⊥) where
@@ -55,36 +56,36 @@ module _ (n : ℕ) (directory : Directory) (on : IsDirectoryOn n directory) (cha
   files = info_by directory
 
   abbrev added : ℕ
-  added = added_count files changes
+  added = length fresh
 
   -- each page that a source gives is there,
-  pub given_there : (k : ℕ) → k < added + length list → (p : FilePage) × (given_page files changes list k ≡ Some p)
+  pub given_there : (k : ℕ) → k < length fresh + length list → (p : FilePage) × (given_page fresh list k ≡ Some p)
   given_there k below = ⊎_elim
-      (λ new. (let there = new_there n directory on changes are k new in (there.0, given_new files changes list k new ∙ there.1)))
-      (λ past. (get_or list (k - added) no_page, given_listed files changes list k past ∙ slice_get-get_or list (k - added) no_page (omega (arith, below, past))))
+      (λ new. (get_or fresh k no_page, given_new fresh list k new ∙ slice_get-get_or fresh k no_page new))
+      (λ past. (get_or list (k - added) no_page, given_listed fresh list k past ∙ slice_get-get_or list (k - added) no_page (omega (arith, below, past))))
       (cases_lt k added)
 
   -- one of its file then,
-  pub given_inside : (k : ℕ) (p : FilePage) → given_page files changes list k ≡ Some p → HasThen files changes p
+  pub given_inside : (k : ℕ) (p : FilePage) → given_page fresh list k ≡ Some p → HasThen (info_by directory) changes p
   given_inside k p is = ⊎_elim
-      (λ new. (new_behind n directory on changes are k p (sym (given_new files changes list k new) ∙ is)).1)
-      (λ past. (let inside = after_in (k - added) p (sym (given_listed files changes list k past) ∙ is) in is_counted (files_after files changes p.file) inside.0 p.page inside.1 inside.2))
+      (λ new. (given.new k p (sym (given_new fresh list k new) ∙ is)).1)
+      (λ past. (let inside = after_in (k - added) p (sym (given_listed fresh list k past) ∙ is) in is_counted (files_after files changes p.file) inside.0 p.page inside.1 inside.2))
       (cases_lt k added)
 
   -- and none is there twice.
-  given_once : (k l : ℕ) (p : FilePage) → k < l → given_page files changes list k ≡ Some p → given_page files changes list l ≡ Some p → ⊥
+  given_once : (k l : ℕ) (p : FilePage) → k < l → given_page fresh list k ≡ Some p → given_page fresh list l ≡ Some p → ⊥
   given_once k l p less one two = ⊎_elim
       (λ first.
-      let a : new_page files changes k ≡ Some p = sym (given_new files changes list k first) ∙ one in
+      let a : slice_get fresh k ≡ Some p = sym (given_new fresh list k first) ∙ one in
       ⊎_elim
-      (λ second. (let same = new_once n directory on changes are k l p a (sym (given_new files changes list l second) ∙ two) in omega (arith, less, same)))
+      (λ second. given.distinct k l p less a (sym (given_new fresh list l second) ∙ two))
       (λ past.
-      let behind = (new_behind n directory on changes are k p a).0 in
-      let inside = before_in (l - added) p (sym (given_listed files changes list l past) ∙ two) in
+      let behind = (given.new k p a).0 in
+      let inside = before_in (l - added) p (sym (given_listed fresh list l past) ∙ two) in
       let there = is_counted (files p.file) inside.0 p.page inside.1 inside.2 in omega (arith, behind, there))
       (cases_lt l added))
-      (λ past. distinct (k - added) (l - added) p (omega (arith, less, past)) (sym (given_listed files changes list k past) ∙ one)
-      (sym (given_listed files changes list l (omega (arith, less, past))) ∙ two))
+      (λ past. distinct (k - added) (l - added) p (omega (arith, less, past)) (sym (given_listed fresh list k past) ∙ one)
+      (sym (given_listed fresh list l (omega (arith, less, past))) ∙ two))
       (cases_lt k added)
 
   -- The directory after the changes
@@ -104,10 +105,10 @@ module _ (n : ℕ) (directory : Directory) (on : IsDirectoryOn n directory) (cha
   -- has pages from one on,
   module _ (put : ℕ) where
     abbrev count : ℕ
-    count = late_count files changes list put
+    count = late_count fresh list put
 
     abbrev page_at : ℕ → FilePage
-    page_at i = page_or (given_page files changes list (put + i))
+    page_at i = page_or (given_page fresh list (put + i))
 
     abbrev late : List FilePage
     late = map page_at (range_with_len 0 count)
@@ -115,13 +116,13 @@ module _ (n : ℕ) (directory : Directory) (on : IsDirectoryOn n directory) (cha
     late_long : length late ≡ count
     late_long = length-map-range_with_len page_at 0 count
 
-    page_listed : (i : ℕ) → i < count → slice_get late i ≡ given_page files changes list (put + i)
+    page_listed : (i : ℕ) → i < count → slice_get late i ≡ given_page fresh list (put + i)
     page_listed i below =
         let there = given_there (put + i) (omega (arith, below)) in
         slice_get-get_or late i no_page (omega (arith, below, late_long))
         ∙ ap Some (get_or-map-range_with_len page_at 0 count i i no_page below (omega arith) ∙ ap page_or there.1) ∙ sym there.1
 
-    late_is : (i : ℕ) (p : FilePage) → slice_get late i ≡ Some p → (i < count) × (given_page files changes list (put + i) ≡ Some p)
+    late_is : (i : ℕ) (p : FilePage) → slice_get late i ≡ Some p → (i < count) × (given_page fresh list (put + i) ≡ Some p)
     late_is i p is = (let below : i < count = (let within = slice_get_within late i p is in omega (arith, within, late_long)) in (below, sym (page_listed i below) ∙ is))
 
     inside_then : (i : ℕ) (p : FilePage) → slice_get late i ≡ Some p → IsPageOf (info_by directory_then) p.file p.page
@@ -133,23 +134,23 @@ module _ (n : ℕ) (directory : Directory) (on : IsDirectoryOn n directory) (cha
     apart i j p less one two = given_once (put + i) (put + j) p (omega (arith, less)) (late_is i p one).1 (late_is j p two).1
 
     -- which are the places that the source gives,
-    same_places : given_places directory changes list put ≡ places_from directory_then 0 late
+    same_places : given_places directory changes fresh list put ≡ places_from directory_then 0 late
     same_places =
-        let long = length-map-range_with_len (given_place directory changes list put) 0 count in
-        ext_get_or no_place (given_places directory changes list put) (places_from directory_then 0 late) (long ∙ sym (places_long directory_then 0 late ∙ late_long))
+        let long = length-map-range_with_len (given_place directory changes fresh list put) 0 count in
+        ext_get_or no_place (given_places directory changes fresh list put) (places_from directory_then 0 late) (long ∙ sym (places_long directory_then 0 late ∙ late_long))
         (λ i inside.
         let below : i < count = omega (arith, inside, long) in
         let there = given_there (put + i) (omega (arith, below)) in
         let p = there.0 in
-        let home : given_home directory changes list (put + i) ≡ number_of (home_of directory_then p) =
+        let home : given_home directory changes fresh list (put + i) ≡ number_of (home_of directory_then p) =
         ap (λ (o : Option FilePage). number_of (home_then directory changes o)) there.1 ∙ ap (λ (e : Option Entry). number_of (home_by e p.page)) (sym (entry_later n directory on changes are p.file)) in
-        get_or-map-range_with_len (given_place directory changes list put) 0 count i i no_place below (omega arith)
+        get_or-map-range_with_len (given_place directory changes fresh list put) 0 count i i no_place below (omega arith)
         ∙ ap (λ (h : ℕ). record { home = h; index = i }) home
         ∙ sym (place_listed directory_then i late p no_place (page_listed i below ∙ there.1)))
 
     -- in the order of their homes.
-    pub are_placed_then : (places : List Place) → IsPermutation (given_places directory changes list put) places → IsNonDecreasingBy (λ (place : Place). place.home) places
-        → ArePlacedThen directory changes list put places (map (λ (place : Place). place.home) places)
+    pub are_placed_then : (places : List Place) → IsPermutation (given_places directory changes fresh list put) places → IsNonDecreasingBy (λ (place : Place). place.home) places
+        → ArePlacedThen directory changes fresh list put places (map (λ (place : Place). place.home) places)
     are_placed_then places same up =
         let homes : List ℕ = map (λ (place : Place). place.home) places in
         let placed : ArePlaced directory_then late places homes = are_placed n directory_then on_then late inside_then apart places homes

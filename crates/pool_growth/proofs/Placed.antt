@@ -1,102 +1,47 @@
 -- New pages, written one after the other where they are to stand, and what stands beside them.
-use Rattle.std.proofs.Common.{ℕ, Bool, true, false, not, Option, Some, None, suc, List, Result, Ok, Err, IsErrAnd, OnOk, ◌≡◌, ◌<◌, ◌≤◌, ◌+◌, ◌*◌, ◌⊎◌, ◌∙◌, refl, sym, ap, subst, inl, inr, ⊎_elim, arith}
-use Rattle.std.proofs.lemmas.Bool.{cases_eq}
-use Rattle.disk_model.proofs.{Moments.{started, goes_on, wider}, Naming.{once_apart, once_named}}
-use Rattle.disk_model.specs.{Moments.{Touches, LeavesOnly}, Sectors.{part_of}, Stop.{Image, MayLeave, Names, NamesOnce}}
+use Rattle.std.proofs.Common.{ℕ, Bool, true, false, not, Option, Some, None, List, length, replicate, slice_get, Result, Ok, Err, IsErrAnd, OnOk, ◌≡◌, ◌<◌, ◌≤◌, ◌+◌, ◌*◌, ◌⊎◌, ◌∙◌, refl, sym, ap, subst, inl, inr, ⊎_elim, arith}
+use Rattle.std.proofs.lemmas.Bool.{cases_eq, false≢true}
+use Rattle.disk_model.proofs.{Moments.{started, goes_on, stays}, Naming.{once_apart, once_named}}
+use Rattle.disk_model.specs.{Moments.{Touches, LeavesOnly}, Sectors.{part_of, sector_bytes}, Stop.{Image, MayLeave, Names, NamesOnce}}
 use Rattle.disk_model.specs.declared.sector_disk.SectorDisk.{Ghosts}
 use Rattle.vm_types.specs.declared.file.FilePage.{FilePage}
 use Rattle.file_store.specs.Layout.{padded_page}
 use Rattle.growth.specs.declared.changes.Change.{Change}
-use Rattle.pool_growth.proofs.New.{new_within, new_apart}
-use Rattle.pool_growth.specs.{Asked.{AreFileChanges}, Files.{added_count, new_page}, Putting.{home_then, inside_then, new_home, new_at, cut_new, IsNewHome, IsPutSector, HoldsNewPages, NewPagesStand, LeavesOtherHomes, PutsNewPages}}
-use Rattle.pool_journal.proofs.Loose.{Gives, slot_gives, slot_same, same_entry, same_place, no_map, no_home, map_low, maps_apart, stands_from, loose_high, loose_low, few, stood}
-use Rattle.pool_journal.specs.{Maps.{entries_of}, Pools.{pool_gate, pool_slot, pool_home, pool_entry, pool_named, pool_under, pool_stands, pool_standing, slot_by, IsPoolRest, IsPoolMap, IsLoose}}
+use Rattle.pool_growth.proofs.{New.{new_apart, new_inside, new_is_new}, Owning.{at_home, map_block, slot_block, home_block, own_once, own_place, own_not_map, own_not_gate, own_not_behind, own_whole, IsOwn}}
+use Rattle.pool_growth.specs.Asked.{AreFileChanges, AreNewPages}
+use Rattle.pool_growth.specs.Putting.{home_then, inside_then, is_sparse, new_home, new_at, cut_new, AreZeros, BlanksNewPages, HoldsNewPages, IsBroughtSector, IsNewHome, IsNewSector, IsPutSector, LeavesOtherHomes, NewPagesStand, OthersAreBlank, PutsNewPages}
+use Rattle.pool_journal.proofs.Loose.{Gives, slot_gives, slot_same, same_entry, same_place, no_map, no_home, map_low, maps_apart, loose_high, loose_low, few, stood}
+use Rattle.pool_journal.specs.{Maps.{entries_of}, Pools.{pool_gate, pool_entry, pool_named, pool_under, pool_stands, pool_standing, slot_by, IsPoolRest, IsPoolMap, IsLoose}}
 use Rattle.pool_journal.specs.declared.pool.PoolJournal.{PoolJournal}
-use Rattle.pool_store.specs.{Places.{number_of}, Store.{info_by, IsDirectoryOn, IsPoolOf}, declared.directory.Directory.{Directory}}
+use Rattle.pool_store.specs.{Places.{number_of}, Store.{info_by, IsPoolOf}, declared.directory.Directory.{Directory}}
 use Rattle.sync_journal.proofs.Runs.{of_more, one_more}
-use Rattle.sync_journal.specs.{Blocks.{IsSameBlock, LeavesInBlocks}, Gate.{is_open_sector}, Layout.{IsPageSector}, Runs.{RunsOnDevice}, Steps.{TakesPages}}
+use Rattle.sync_journal.specs.{Blocks.{IsSameBlock, LeavesInBlocks}, Gate.{is_open_sector}, Layout.{IsPageSector}, Runs.{RunsOnDevice}, Steps.{FillsBody, TakesPages}}
 use Rattle.sync_journal.specs.declared.{faults.CommitFault.{CommitFault}, source.PageSource.{Ghosts as SourceGhosts}}
-
--- what lies in blocks of its own
-map_block : (m : ℕ) (b : Bool) (k j : ℕ) → IsSameBlock k j → IsPoolMap m b j → IsPoolMap m b k
-map_block m false k j same inside = (omega (arith, same, inside.0), omega (arith, same, inside.1))
-map_block m true k j same inside = (omega (arith, same, inside.0), omega (arith, same, inside.1))
-
-slot_block : (m : ℕ) (b : Bool) (r k j : ℕ) → IsSameBlock k j → IsPageSector (pool_slot m b r) j → IsPageSector (pool_slot m b r) k
-slot_block m false r k j same inside = (omega (arith, same, inside.0, inside.1), omega (arith, same, inside.0, inside.1))
-slot_block m true r k j same inside = (omega (arith, same, inside.0, inside.1), omega (arith, same, inside.0, inside.1))
-
-home_block : (m h k j : ℕ) → IsSameBlock k j → IsPageSector (pool_home m h) j → IsPageSector (pool_home m h) k
-home_block m h k j same inside = (omega (arith, same, inside.0, inside.1), omega (arith, same, inside.0, inside.1))
 
 loose_block : (m : ℕ) (second : Bool) (entries : Bool → ℕ → ℕ) (k j : ℕ) → IsSameBlock k j → IsLoose m second entries j → IsLoose m second entries k
 loose_block m second entries k j same = ⊎_elim (λ map. inl (map_block m (not second) k j same map))
     (⊎_elim (λ slot. inr (inl (slot.0, slot.1, slot.2, slot.3, slot_block m slot.0 slot.1 k j same slot.4)))
     (λ home. inr (inr (home.0, home.1, home.2, home_block m home.0 k j same home.3))))
 
--- Where the pages of homes stand under a map: no sector of one is
-module _ (m : ℕ) (entries : Bool → ℕ → ℕ) where
-  abbrev pub at_home : ℕ → ℕ
-  at_home h = pool_stands m h (slot_by m entries h)
+-- A page that stands is not loose.
+not_loose : (m : ℕ) (entries : Bool → ℕ → ℕ) (second : Bool) (h k : ℕ) → IsPageSector (at_home m entries h) k → IsLoose m second entries k → ⊥
+not_loose m entries second h k = here (slot_by m entries h) refl (slot_gives m entries h)
+  where
+    here : (o : Option (Bool × ℕ)) → slot_by m entries h ≡ o → Gives m entries h o → IsPageSector (pool_stands m h o) k → IsLoose m second entries k → ⊥
+    here None is gives at = ⊎_elim (λ map. map_low m (not second) k map (omega (arith, at.0)))
+        (⊎_elim (λ slot. no_home m slot.0 slot.1 k slot.2 slot.4 (omega (arith, at.0)))
+        (λ home. (let same : home.0 ≡ h = omega (arith, home.3.0, home.3.1, at.0, at.1) in
+        let none : Some home.1 ≡ None = sym home.2 ∙ ap (slot_by m entries) same ∙ is in absurd (let bad = none in cc))))
+    here (Some place) is gives at = ⊎_elim (λ map. no_map m (not second) place.0 place.1 k gives.0 at map)
+        (⊎_elim (λ slot. (let one = same_place m slot.0 place.0 slot.1 place.1 k slot.2 gives.0 slot.4 at in
+        let free : entries place.0 place.1 ≡ 0 = subst (λ b. entries b place.1 ≡ 0) one.0 (subst (λ r. entries slot.0 r ≡ 0) one.1 slot.3) in omega (arith, free, gives.1)))
+        (λ home. no_home m place.0 place.1 k gives.0 at (omega (arith, home.3.0))))
 
-  -- another one's,
-  pub one_home : (a b k : ℕ) → IsPageSector (at_home a) k → IsPageSector (at_home b) k → a ≡ b
-  one_home a b k = here (slot_by m entries a) (slot_by m entries b) (slot_gives m entries a) (slot_gives m entries b)
-    where
-      here : (o p : Option (Bool × ℕ)) → Gives m entries a o → Gives m entries b p → IsPageSector (pool_stands m a o) k → IsPageSector (pool_stands m b p) k → a ≡ b
-      here None None one two first second = omega (arith, first.0, first.1, second.0, second.1)
-      here None (Some q) one two first second = absurd (no_home m q.0 q.1 k two.0 second (omega (arith, first.0)))
-      here (Some q) None one two first second = absurd (no_home m q.0 q.1 k one.0 first (omega (arith, second.0)))
-      here (Some q) (Some r) one two first second =
-          let same = same_place m q.0 r.0 q.1 r.1 k one.0 two.0 first second in
-          let given : entries r.0 r.1 ≡ suc a = subst (λ body. entries body r.1 ≡ suc a) same.0 (subst (λ s. entries q.0 s ≡ suc a) same.1 one.1) in
-          omega (arith, given, two.1)
+-- Over a device at rest sectors of some homes are written.
+module _ {D : Type 0} (g : Ghosts D) (m n : ℕ) (second : Bool) (entries : Bool → ℕ → ℕ) (old : D) (rest : IsPoolRest g m n second entries old) (Written : ℕ → Type 0) (inside : (h : ℕ) → Written h → h < n) where
+  abbrev pub W : ℕ → Type 0
+  W k = (h : ℕ) × Written h × IsOwn m entries h k
 
-  -- of a map,
-  pub not_map : (b : Bool) (h k : ℕ) → IsPageSector (at_home h) k → IsPoolMap m b k → ⊥
-  not_map b h k = here (slot_by m entries h) (slot_gives m entries h)
-    where
-      here : (o : Option (Bool × ℕ)) → Gives m entries h o → IsPageSector (pool_stands m h o) k → IsPoolMap m b k → ⊥
-      here None gives at map = map_low m b k map (omega (arith, at.0))
-      here (Some slot) gives at map = no_map m b slot.0 slot.1 k gives.0 at map
-
-  -- loose,
-  pub not_loose : (second : Bool) (h k : ℕ) → IsPageSector (at_home h) k → IsLoose m second entries k → ⊥
-  not_loose second h k = here (slot_by m entries h) refl (slot_gives m entries h)
-    where
-      here : (o : Option (Bool × ℕ)) → slot_by m entries h ≡ o → Gives m entries h o → IsPageSector (pool_stands m h o) k → IsLoose m second entries k → ⊥
-      here None is gives at = ⊎_elim (λ map. map_low m (not second) k map (omega (arith, at.0)))
-          (⊎_elim (λ slot. no_home m slot.0 slot.1 k slot.2 slot.4 (omega (arith, at.0)))
-          (λ home. (let same : home.0 ≡ h = omega (arith, home.3.0, home.3.1, at.0, at.1) in
-          let none : Some home.1 ≡ None = sym home.2 ∙ ap (slot_by m entries) same ∙ is in absurd (let bad = none in cc))))
-      here (Some place) is gives at = ⊎_elim (λ map. no_map m (not second) place.0 place.1 k gives.0 at map)
-          (⊎_elim (λ slot. (let one = same_place m slot.0 place.0 slot.1 place.1 k slot.2 gives.0 slot.4 at in
-          let free : entries place.0 place.1 ≡ 0 = subst (λ b. entries b place.1 ≡ 0) one.0 (subst (λ r. entries slot.0 r ≡ 0) one.1 slot.3) in omega (arith, free, gives.1)))
-          (λ home. no_home m place.0 place.1 k gives.0 at (omega (arith, home.3.0))))
-
-  -- the gate or one before it,
-  pub not_gate : (h k : ℕ) → IsPageSector (at_home h) k → k < pool_gate + 8 → ⊥
-  not_gate h k at low = let from = stands_from m h 0 (slot_by m entries h) in omega (arith, from, at.0, low)
-
-  -- or one past the homes;
-  pub not_behind : (n h k : ℕ) → h < n → IsPageSector (at_home h) k → pool_home m n ≤ k → ⊥
-  not_behind n h k below = here (slot_by m entries h) (slot_gives m entries h)
-    where
-      here : (o : Option (Bool × ℕ)) → Gives m entries h o → IsPageSector (pool_stands m h o) k → pool_home m n ≤ k → ⊥
-      here None gives at high = omega (arith, at.1, below, high)
-      here (Some slot) gives at high = no_home m slot.0 slot.1 k gives.0 at (omega (arith, high))
-
-  -- and they are a block.
-  pub home_whole : (h k j : ℕ) → IsSameBlock k j → IsPageSector (at_home h) j → IsPageSector (at_home h) k
-  home_whole h k j same = here (slot_by m entries h)
-    where
-      here : (o : Option (Bool × ℕ)) → IsPageSector (pool_stands m h o) j → IsPageSector (pool_stands m h o) k
-      here None at = home_block m h k j same at
-      here (Some slot) at = slot_block m slot.0 slot.1 k j same at
-
--- Over a device at rest some homes are written where they stand.
-module _ {D : Type 0} (g : Ghosts D) (m n : ℕ) (second : Bool) (entries : Bool → ℕ → ℕ) (old : D) (rest : IsPoolRest g m n second entries old) (Written : ℕ → Type 0) (W : ℕ → Type 0)
-    (of_home : (k : ℕ) → W k → (h : ℕ) × Written h × (h < n) × IsPageSector (at_home m entries h) k) (whole : (k j : ℕ) → IsSameBlock k j → W j → W k) where
   abbrev pub Others : Image → Type 0
   Others = LeavesOtherHomes m n Written (g.content old)
 
@@ -107,7 +52,7 @@ module _ {D : Type 0} (g : Ghosts D) (m n : ℕ) (second : Bool) (entries : Bool
   -- has the same gate,
   pub gate_beside : (image : Image) → IsBeside image → pool_named image ≡ second
   gate_beside image same = ap is_open_sector (⊎_elim
-      (⊎_elim (λ loose. absurd (loose_high m second entries pool_gate loose (omega arith))) (λ w. (let at = of_home pool_gate w in absurd (not_gate m entries at.0 pool_gate at.3 (omega arith)))))
+      (⊎_elim (λ loose. absurd (loose_high m second entries pool_gate loose (omega arith))) (λ w. absurd (own_not_gate m entries w.0 pool_gate w.2 (omega arith))))
       (λ e. e) (same pool_gate))
       ∙ rest.gate
 
@@ -119,7 +64,7 @@ module _ {D : Type 0} (g : Ghosts D) (m n : ℕ) (second : Bool) (entries : Bool
       there k map = ⊎_elim (⊎_elim
           (⊎_elim (λ other. absurd (maps_apart m second k map other)) (⊎_elim (λ slot. absurd (no_map m second slot.0 slot.1 k slot.2 slot.4 map))
           (λ home. absurd (map_low m second k map (omega (arith, home.3.0))))))
-          (λ w. (let at = of_home k w in absurd (not_map m entries second at.0 k at.3 map))))
+          (λ w. absurd (own_not_map m entries second w.0 k w.2 map)))
           (λ e. e) (same k)
 
   -- so that each home stands in the same place,
@@ -133,18 +78,18 @@ module _ {D : Type 0} (g : Ghosts D) (m n : ℕ) (second : Bool) (entries : Bool
     stands = λ h i other below. place_beside image same h i ∙ kept h i other below ∙ sym (stood g m n second entries old rest h i);
     outside = λ k. ⊎_elim
         (λ front. ⊎_elim (⊎_elim (λ loose. absurd (loose_high m second entries k loose (omega (arith, front))))
-        (λ w. (let at = of_home k w in absurd (not_gate m entries at.0 k at.3 (omega (arith, front)))))) (λ e. e) (same k))
+        (λ w. absurd (own_not_gate m entries w.0 k w.2 (omega (arith, front))))) (λ e. e) (same k))
         (λ after. ⊎_elim (⊎_elim (λ loose. absurd (loose_low m n second entries (few g m n second entries old rest) k loose after))
-        (λ w. (let at = of_home k w in absurd (not_behind m entries n at.0 k at.2 at.3 after)))) (λ e. e) (same k));
+        (λ w. absurd (own_not_behind m entries n w.0 k (inside w.0 w.1) w.2 after))) (λ e. e) (same k));
   }
     where
       kept : (h i : ℕ) → (Written h → ⊥) → i < 8 → image (at_home m entries h + i) ≡ g.content old (at_home m entries h + i)
       kept h i other below =
-          let here : IsPageSector (at_home m entries h) (at_home m entries h + i) = (omega arith, omega (arith, below)) in
-          ⊎_elim (⊎_elim (λ loose. absurd (not_loose m entries second h (at_home m entries h + i) here loose))
-          (λ w. (let at = of_home (at_home m entries h + i) w in
-          absurd (other (subst Written (one_home m entries at.0 h (at_home m entries h + i) at.3 here) at.1)))))
-          (λ e. e) (same (at_home m entries h + i))
+          let k = at_home m entries h + i in
+          let here : IsPageSector (at_home m entries h) k = (omega arith, omega (arith, below)) in
+          ⊎_elim (⊎_elim (λ loose. absurd (not_loose m entries second h k here loose))
+          (λ w. absurd (other (subst Written (own_once m entries w.0 h k w.2 (own_place m entries h k here)) w.1))))
+          (λ e. e) (same k)
 
   module _ (only_now : (image : Image) → g.left_since old (g.moment old) image → MayLeave (g.content old) (g.unsynced old) image) (new : D) (run : Touches g W old new) where
     around : (image : Image) → MayLeave (g.content old) (λ k. g.unsynced old k ⊎ W k) image → Others image
@@ -161,7 +106,7 @@ module _ {D : Type 0} (g : Ghosts D) (m n : ℕ) (second : Bool) (entries : Bool
     blocks_written = record {
       writes = run;
       each = λ d wrote image may. others_beside image (λ k. ⊎_elim
-          (λ block. inl (⊎_elim (λ u. inl (loose_block m second entries k block.0 block.1 (rest.synced block.0 u))) (λ w. inr (whole k block.0 block.1 w)) (wrote.unsynced block.0 block.2)))
+          (λ block. inl (⊎_elim (λ u. inl (loose_block m second entries k block.0 block.1 (rest.synced block.0 u))) (λ w. inr (w.0, w.1, own_whole m entries w.0 k block.0 block.1 w.2)) (wrote.unsynced block.0 block.2)))
           (λ e. ⊎_elim (λ w. inl (inr w)) (λ e'. inr (e ∙ e')) (wrote.content k))
           (may.kept k));
     }
@@ -182,23 +127,24 @@ pub none_of_error : {T E : Type 0} (result : Result T E) (Is : E → Type 0) (P 
 none_of_error (Ok x) Is P told = absurd told
 none_of_error (Err e) Is P told = tt
 
--- New page i of changes is
-module _ (journal : PoolJournal) (directory : Directory) (changes : List Change) (i : ℕ) (p : FilePage) (is : new_page (info_by directory) changes i ≡ Some p) where
+-- New page i is
+module _ (journal : PoolJournal) (directory : Directory) (changes : List Change) (fresh : List FilePage) (i : ℕ) (p : FilePage) (is : slice_get fresh i ≡ Some p) where
   -- written where it is to stand,
   pub stands_new : (home at : ℕ) → home_then directory changes (Some p) ≡ Some home → at ≡ pool_stands journal.sizes.blocks home (slot_by journal.sizes.blocks (entries_of journal.map) home)
-      → at ≡ new_at journal directory changes i
+      → at ≡ new_at journal directory changes fresh i
   stands_new home at home_is at_is = at_is
       ∙ sym (ap (λ h. pool_stands journal.sizes.blocks h (slot_by journal.sizes.blocks (entries_of journal.map) h)) (ap (λ o. number_of (home_then directory changes o)) is ∙ ap number_of home_is))
 
   -- as it is given, with zeros past its file's end.
   pub given_new : (given : ℕ → List ℕ) (inside : ℕ) (read bytes : List ℕ) → inside ≡ inside_then directory changes (Some p) → read ≡ given i → bytes ≡ padded_page inside read
-      → bytes ≡ cut_new directory changes given i
+      → bytes ≡ cut_new directory changes fresh given i
   given_new given inside read bytes inside_is read_is bytes_are = bytes_are
       ∙ ap (λ n. padded_page n read) (inside_is ∙ ap (inside_then directory changes) (sym is))
-      ∙ ap (padded_page (inside_then directory changes (new_page (info_by directory) changes i))) read_is
+      ∙ ap (padded_page (inside_then directory changes (slice_get fresh i))) read_is
 
--- The new pages of changes:
-module _ (journal : PoolJournal) (directory : Directory) (on : IsDirectoryOn journal.sizes.homes directory) (changes : List Change) (are : AreFileChanges journal.sizes.homes directory changes) where
+-- New pages of changes:
+module _ (journal : PoolJournal) (directory : Directory) (changes : List Change) (are : AreFileChanges journal.sizes.homes directory changes)
+    (fresh : List FilePage) (news : AreNewPages (info_by directory) changes fresh) where
   abbrev pub m : ℕ
   m = journal.sizes.blocks
 
@@ -208,88 +154,158 @@ module _ (journal : PoolJournal) (directory : Directory) (on : IsDirectoryOn jou
   abbrev pub names : Bool → ℕ → ℕ
   names = entries_of journal.map
 
-  abbrev pub count : ℕ
-  count = added_count (info_by directory) changes
-
   abbrev pub at : ℕ → ℕ
-  at = new_at journal directory changes
+  at = new_at journal directory changes fresh
 
   abbrev pub IsPut : ℕ → ℕ → Type 0
-  IsPut = IsPutSector journal directory changes
+  IsPut = IsPutSector journal directory changes fresh
 
-  -- each stands in sectors of a home of its own,
-  pub put_home : (k : ℕ) → IsPut count k → (h : ℕ) × IsNewHome directory changes h × (h < n) × IsPageSector (at_home m names h) k
-  put_home k put = (new_home directory changes put.0, (put.0, put.1, refl), (new_within n directory changes are put.0 put.1).1, put.2)
+  abbrev pub IsNew : ℕ → Type 0
+  IsNew = IsNewSector journal directory changes
 
-  -- which are a block,
-  pub put_whole : (k j : ℕ) → IsSameBlock k j → IsPut count j → IsPut count k
-  put_whole k j same put = (put.0, put.1, home_whole m names (new_home directory changes put.0) k j same put.2)
+  -- each stands in sectors of its home,
+  pub put_new : (put k : ℕ) → put ≤ length fresh → IsPut put k → IsNew k
+  put_new put k low of = (
+    new_home directory changes fresh of.0,
+    new_is_new n directory changes are fresh news of.0 (omega (arith, of.1, low)),
+    own_place m names (new_home directory changes fresh of.0) k of.2,
+  )
 
-  -- and in no other's.
-  pub two_new : (i j k : ℕ) → i < j → j < count → IsPageSector (at i) k → IsPageSector (at j) k → ⊥
+  -- and of no other's.
+  pub two_new : (i j k : ℕ) → i < j → j < length fresh → IsPageSector (at i) k → IsPageSector (at j) k → ⊥
   two_new i j k less below first second =
-      let same = new_apart n directory changes are i j (omega (arith, less, below)) below (one_home m names (new_home directory changes i) (new_home directory changes j) k first second) in
+      let one = new_home directory changes fresh i in
+      let two = new_home directory changes fresh j in
+      let same = new_apart n directory changes are fresh news i j (omega (arith, less, below)) below (own_once m names one two k (own_place m names one k first) (own_place m names two k second)) in
       omega (arith, same, less)
 
   -- One more is written.
-  pub once_more : (i : ℕ) (before mid now : ℕ → ℕ) → i < count → NamesOnce (IsPut i) before mid → Names (IsPageSector (at i)) mid now → NamesOnce (IsPut (i + 1)) before now
+  pub once_more : (i : ℕ) (before mid now : ℕ → ℕ) → i < length fresh → NamesOnce (IsPut i) before mid → Names (IsPageSector (at i)) mid now → NamesOnce (IsPut (i + 1)) before now
   once_more i before mid now below so_far page = once_apart (IsPut i) (IsPageSector (at i)) (IsPut (i + 1)) before mid now
       (λ k was. (was.0, omega (arith, was.1), was.2)) (λ k here. (i, omega arith, here)) (λ k was here. two_new was.0 i k was.1 below was.2 here)
       so_far (once_named (IsPageSector (at i)) (IsPageSector (at i)) mid now (λ k here. here) page)
 
   -- Where the first `put` of them are written:
-  module _ (put : ℕ) (low : put ≤ added_count (info_by directory) changes) where
-    of_all : (k : ℕ) → IsPut put k → IsPut count k
-    of_all k at = (at.0, (let below = at.1 in omega (arith, below, low)), at.2)
+  module _ (put : ℕ) (low : put ≤ length fresh) {D : Type 0} (g : Ghosts D) (i : ℕ) (old mid new : D) (below : i < put) (run : RunsOnDevice g (IsPageSector (at i)) mid new) where
+    pub run_more : RunsOnDevice g (IsPut put) old mid → RunsOnDevice g (IsPut put) old new
+    run_more before = one_more g (IsPut put) old mid new before (of_more g (IsPageSector (at i)) (IsPut put) mid new (λ k here. (i, below, here)) run)
 
-    module _ {D : Type 0} (g : Ghosts D) (i : ℕ) (old mid new : D) (below : i < put) (run : RunsOnDevice g (IsPageSector (at i)) mid new) where
-      pub run_more : RunsOnDevice g (IsPut put) old mid → RunsOnDevice g (IsPut put) old new
-      run_more before = one_more g (IsPut put) old mid new before (of_more g (IsPageSector (at i)) (IsPut put) mid new (λ k here. (i, below, here)) run)
+    pub held_more : (given : ℕ → List ℕ) (page : List ℕ) → page ≡ cut_new directory changes fresh given i → g.keeps_model new → HoldsNewPages journal directory changes fresh given i (g.content mid)
+        → ((j : ℕ) → j < 8 → g.content new (at i + j) ≡ part_of page j) → HoldsNewPages journal directory changes fresh given (i + 1) (g.content new)
+    held_more given page is keeps held written p j before small = ⊎_elim
+        (λ same. subst (λ s. g.content new (at s + j) ≡ part_of (cut_new directory changes fresh given s) j) (sym same) (written j small ∙ ap (λ b. part_of b j) is))
+        (λ other. (let less : p < i = omega (arith, before, other) in
+        ⊎_elim {C = g.content new (at p + j) ≡ g.content mid (at p + j)}
+        (λ here. absurd (two_new p i (at p + j) less (omega (arith, below, low)) (omega arith, omega (arith, small)) here)) (λ e. e) ((run.touches keeps).content (at p + j))
+        ∙ held p j less small))
+        (cases_eq p i)
 
-      pub held_more : (given : ℕ → List ℕ) (page : List ℕ) → page ≡ cut_new directory changes given i → g.keeps_model new → HoldsNewPages journal directory changes given i (g.content mid)
-          → ((j : ℕ) → j < 8 → g.content new (at i + j) ≡ part_of page j) → HoldsNewPages journal directory changes given (i + 1) (g.content new)
-      held_more given page is keeps held written p j before small = ⊎_elim
-          (λ same. subst (λ s. g.content new (at s + j) ≡ part_of (cut_new directory changes given s) j) (sym same) (written j small ∙ ap (λ b. part_of b j) is))
-          (λ other. (let less : p < i = omega (arith, before, other) in
-          ⊎_elim {C = g.content new (at p + j) ≡ g.content mid (at p + j)}
-          (λ here. absurd (two_new p i (at p + j) less (omega (arith, below, low)) (omega arith, omega (arith, small)) here)) (λ e. e) ((run.touches keeps).content (at p + j))
-          ∙ held p j less small))
-          (cases_eq p i)
+-- Where some new pages are not given, all were made zeros first:
+pub record AreMadeZeros {D : Type 0} (g : Ghosts D) (journal : PoolJournal) (directory : Directory) (changes : List Change) (sparse : Bool) (old blank : D) : Type 0 where
+  pub run : RunsOnDevice g (IsNewSector journal directory changes) old blank
+  pub calm : g.failures blank ≡ g.failures old
+  pub asks : (k : ℕ) → ((sparse ≡ true) × IsNewSector journal directory changes k) ⊎ (g.asked blank k ≡ g.asked old k)
+  pub still : sparse ≡ false → (k : ℕ) → g.asked blank k ≡ g.asked old k
+  pub zeros : sparse ≡ true → g.keeps_model blank → AreZeros g journal (IsNewHome directory changes) blank
 
-    -- Where they were written to a store's device
-    module _ {D S : Type 0} (g : Ghosts D) (s : SourceGhosts S) (old : D) (is : IsPoolOf g journal directory old)
-        (only_now : g.keeps_model old → (image : Image) → g.left_since old (g.moment old) image → MayLeave (g.content old) (g.unsynced old) image)
-        (new : D) (from left : S) (result : Result (Unit {0}) CommitFault)
-        (takes : TakesPages g s (IsPut put) old new from left result) (once : NamesOnce (IsPut put) (g.asked old) (g.asked new)) where
-      rest : g.keeps_model new → IsPoolRest g m n journal.second names old
-      rest keeps = (is.at_rest (takes.kept keeps)).rest
+module _ {D : Type 0} (g : Ghosts D) (journal : PoolJournal) (directory : Directory) (changes : List Change) (sparse : Bool) (old : D) where
+  pub made_zeros : (blank : D) → sparse ≡ true → BlanksNewPages g journal directory changes old blank (Ok (tt {0})) → AreMadeZeros g journal directory changes sparse old blank
+  made_zeros blank is blanks = record {
+    run = blanks.run;
+    calm = blanks.calm;
+    asks = λ k. ⊎_elim (λ same. inr same) (λ new. inl (is, new.0)) (blanks.once.each k);
+    still = λ not_so. absurd (false≢true (sym not_so ∙ is));
+    zeros = λ so. blanks.done;
+  }
 
-      writes : g.keeps_model new → Touches g (IsPut count) old new
-      writes keeps = wider g (IsPut put) (IsPut count) old new of_all (takes.touches keeps)
+  pub none_made : sparse ≡ false → AreMadeZeros g journal directory changes sparse old old
+  none_made is = record {
+    run = record { size = refl; kept = λ keeps. keeps; later = omega arith; touches = λ keeps. stays g (IsNewSector journal directory changes) old };
+    calm = refl;
+    asks = λ k. inr refl;
+    still = λ so k. refl;
+    zeros = λ so. absurd (false≢true (sym is ∙ so));
+  }
 
-      -- they are put, if they stand there and it is at rest,
-      pub puts : (g.keeps_model new → s.keeps_model left → OnOk result (NewPagesStand m n directory changes (s.pages from) put (g.content new)))
-          → (g.keeps_model new → OnOk result (IsPoolRest g m n journal.second names new))
-          → PutsNewPages g s journal directory changes put old new from left result
-      puts stand at_rest = record {
-        puts = stand;
-        rest = at_rest;
-        any_moment = λ keeps. while_written g m n journal.second names old (rest keeps) (IsNewHome directory changes) (IsPut count) put_home put_whole (only_now (takes.kept keeps)) new (writes keeps);
-        blocks = λ keeps. blocks_written g m n journal.second names old (rest keeps) (IsNewHome directory changes) (IsPut count) put_home put_whole (only_now (takes.kept keeps)) new (writes keeps);
-        takes = takes;
-        once = once;
-      }
+-- The first `put` new pages of changes are put on a store's device:
+module _ (journal : PoolJournal) (directory : Directory) (changes : List Change) (are : AreFileChanges journal.sizes.homes directory changes)
+    (fresh : List FilePage) (news : AreNewPages (info_by directory) changes fresh) (put : ℕ) (low : put ≤ length fresh) {D S : Type 0} (g : Ghosts D) (s : SourceGhosts S) (old : D) (from : S) where
+  abbrev pub IsPutHere : ℕ → Type 0
+  IsPutHere = IsPutSector journal directory changes fresh put
 
-      -- or a fault is told;
-      pub not_put : (fault : CommitFault) → IsErrAnd result (λ e. e ≡ fault) → PutsNewPages g s journal directory changes put old new from left result
-      not_put fault told = puts (λ keeps kept. none_of_error result (λ e. e ≡ fault) _ told) (λ keeps. none_of_error result (λ e. e ≡ fault) _ told)
+  abbrev pub IsNewHere : ℕ → Type 0
+  IsNewHere = IsNewSector journal directory changes
 
-      -- it is, once all is synced,
-      pub still_rest : g.keeps_model new → ((k : ℕ) → g.unsynced new k → ⊥) → IsPoolRest g m n journal.second names new
-      still_rest keeps = rest_written g m n journal.second names old (rest keeps) (IsNewHome directory changes) (IsPut count) put_home put_whole (only_now (takes.kept keeps)) new (writes keeps)
+  abbrev pub IsBroughtHere : ℕ → Type 0
+  IsBroughtHere = IsBroughtSector journal directory changes fresh put
 
-      -- and they do where they are held.
-      pub now_stand : g.keeps_model new → HoldsNewPages journal directory changes (s.pages from) put (g.content new) → NewPagesStand m n directory changes (s.pages from) put (g.content new)
-      now_stand keeps held i j below small = place_written g m n journal.second names old (rest keeps) (IsNewHome directory changes) (IsPut count) put_home put_whole
-          (only_now (takes.kept keeps)) new (writes keeps) (new_home directory changes i) j
-          ∙ held i j below small
+  -- They were written over what was made zeros, perhaps:
+  module _ (blank mid : D) (left : S) (result : Result (Unit {0}) CommitFault) (made : AreMadeZeros g journal directory changes (is_sparse directory changes fresh) old blank)
+      (fills : FillsBody g s IsPutHere IsPutHere (HoldsNewPages journal directory changes fresh (s.pages from) put (g.content mid)) blank mid from left result) where
+    pub written_run : RunsOnDevice g IsNewHere old mid
+    written_run = one_more g IsNewHere old blank mid made.run (of_more g IsPutHere IsNewHere blank mid (λ k of. put_new journal directory changes are fresh news put k low of) fills.run)
+
+    -- of each sector is told who asked for it,
+    pub written_asks : (k : ℕ) → IsBroughtHere k ⊎ (g.asked mid k ≡ g.asked old k)
+    written_asks k = ⊎_elim
+        (λ same. ⊎_elim (λ new. inl (inl new)) (λ before. inr (same ∙ before)) (made.asks k))
+        (λ of. inl (inr of.0))
+        (fills.once.each k)
+
+    pub written_once : is_sparse directory changes fresh ≡ false → NamesOnce IsPutHere (g.asked old) (g.asked mid)
+    written_once is = record { each = λ k. ⊎_elim (λ same. inl (same ∙ made.still is k)) (λ of. inr (of.0, of.1 ∙ ap (λ times. times + 1) (made.still is k))) (fills.once.each k) }
+
+    -- and what was not written over is zeros still.
+    pub still_zeros : is_sparse directory changes fresh ≡ true → g.keeps_model mid → (h j : ℕ) → IsNewHome directory changes h → ((i : ℕ) → i < put → new_home directory changes fresh i ≡ h → ⊥) → j < 8
+        → g.content mid (at_home journal.sizes.blocks (entries_of journal.map) h + j) ≡ replicate sector_bytes 0
+    still_zeros sparse keeps h j new other below =
+        let k = at_home journal.sizes.blocks (entries_of journal.map) h + j in
+        let own = own_place journal.sizes.blocks (entries_of journal.map) in
+        ⊎_elim
+        (λ of. absurd (other of.0 of.1 (own_once journal.sizes.blocks (entries_of journal.map) (new_home directory changes fresh of.0) h k
+        (own (new_home directory changes fresh of.0) k of.2) (own h k (omega arith, omega (arith, below))))))
+        (λ same. same ∙ made.zeros sparse (fills.run.kept keeps) h j new below)
+        ((fills.run.touches keeps).content k)
+
+  -- Where nothing but their sectors was written
+  module _ (is : IsPoolOf g journal directory old) (only_now : g.keeps_model old → (image : Image) → g.left_since old (g.moment old) image → MayLeave (g.content old) (g.unsynced old) image)
+      (new : D) (left : S) (result : Result (Unit {0}) CommitFault) (takes : TakesPages g s IsNewHere old new from left result)
+      (asks : (k : ℕ) → IsBroughtHere k ⊎ (g.asked new k ≡ g.asked old k)) (once : is_sparse directory changes fresh ≡ false → NamesOnce IsPutHere (g.asked old) (g.asked new)) where
+    rest : g.keeps_model new → IsPoolRest g journal.sizes.blocks journal.sizes.homes journal.second (entries_of journal.map) old
+    rest keeps = (is.at_rest (takes.kept keeps)).rest
+
+    inside : (h : ℕ) → IsNewHome directory changes h → h < journal.sizes.homes
+    inside h new' = (new_inside journal.sizes.homes directory changes are h new').1
+
+    -- they are put, if all stand there and it is at rest,
+    pub puts : (g.keeps_model new → s.keeps_model left → OnOk result (NewPagesStand journal.sizes.blocks journal.sizes.homes directory changes fresh (s.pages from) put (g.content new)))
+        → (g.keeps_model new → is_sparse directory changes fresh ≡ true → OnOk result (OthersAreBlank journal.sizes.blocks journal.sizes.homes directory changes fresh put (g.content new)))
+        → (g.keeps_model new → OnOk result (IsPoolRest g journal.sizes.blocks journal.sizes.homes journal.second (entries_of journal.map) new))
+        → PutsNewPages g s journal directory changes fresh put old new from left result
+    puts stand blanks at_rest = record {
+      puts = stand;
+      blanks = blanks;
+      rest = at_rest;
+      any_moment = λ keeps. while_written g journal.sizes.blocks journal.sizes.homes journal.second (entries_of journal.map) old (rest keeps) (IsNewHome directory changes) inside
+          (only_now (takes.kept keeps)) new (takes.touches keeps);
+      blocks = λ keeps. blocks_written g journal.sizes.blocks journal.sizes.homes journal.second (entries_of journal.map) old (rest keeps) (IsNewHome directory changes) inside
+          (only_now (takes.kept keeps)) new (takes.touches keeps);
+      takes = takes;
+      asks_device = record { others = asks };
+      once = once;
+    }
+
+    -- or a fault is told;
+    pub not_put : (fault : CommitFault) → IsErrAnd result (λ e. e ≡ fault) → PutsNewPages g s journal directory changes fresh put old new from left result
+    not_put fault told = puts (λ keeps kept. none_of_error result (λ e. e ≡ fault) _ told) (λ keeps sparse. none_of_error result (λ e. e ≡ fault) _ told)
+        (λ keeps. none_of_error result (λ e. e ≡ fault) _ told)
+
+    -- it is, once all is synced,
+    pub still_rest : g.keeps_model new → ((k : ℕ) → g.unsynced new k → ⊥) → IsPoolRest g journal.sizes.blocks journal.sizes.homes journal.second (entries_of journal.map) new
+    still_rest keeps = rest_written g journal.sizes.blocks journal.sizes.homes journal.second (entries_of journal.map) old (rest keeps) (IsNewHome directory changes) inside
+        (only_now (takes.kept keeps)) new (takes.touches keeps)
+
+    -- with each home in its place.
+    pub place_now : g.keeps_model new → (h i : ℕ) → pool_standing journal.sizes.blocks journal.sizes.homes (g.content new) h i ≡ g.content new (at_home journal.sizes.blocks (entries_of journal.map) h + i)
+    place_now keeps = place_written g journal.sizes.blocks journal.sizes.homes journal.second (entries_of journal.map) old (rest keeps) (IsNewHome directory changes) inside
+        (only_now (takes.kept keeps)) new (takes.touches keeps)

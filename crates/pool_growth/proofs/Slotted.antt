@@ -7,7 +7,7 @@ use Rattle.growth.specs.declared.changes.Change.{Change}
 use Rattle.pool_growth.proofs.{New.{home_is}, Ordering.{ArePlacedThen}}
 use Rattle.pool_growth.specs.{Asked.{changed_pages, AreFileChanges}, Late.{given_home, given_homes, late_count, late_homes}, Putting.{home_then}}
 use Rattle.pool_journal.specs.{Commit.{thinned, IsDropped, IsMoved}, Committing.{IsPoolStaged}, Giving.{number_but, AreRising}, Journal.{live_count}}
-use Rattle.pool_store.specs.{Places.{index_at, number_of}, Store.{info_by}}
+use Rattle.pool_store.specs.Places.{index_at, number_of}
 use Rattle.pool_store.specs.declared.{directory.Directory.{Directory}, room.Place.{Place}}
 use Rattle.sync_journal.{proofs.Images.{Means, place_means}, specs.Map.{home_rank}}
 
@@ -90,24 +90,24 @@ module _ (homes others : List ℕ) (long : length homes ≡ length others) (ther
   same_staged m second was k = ⊎_elim (λ bodies. inl (⊎_elim (λ moved. inl (same_dropped m was k moved)) (λ free. inr free) bodies)) (λ map. inr map)
 
 -- Pages that a source gives, in the order of their homes:
-module _ (n : ℕ) (directory : Directory) (changes : List Change) (are : AreFileChanges n directory changes) (list : List FilePage) (put : ℕ)
-    (places : List Place) (placed : ArePlacedThen directory changes list put places (map (λ place. place.home) places)) where
+module _ (n : ℕ) (directory : Directory) (changes : List Change) (are : AreFileChanges n directory changes) (fresh list : List FilePage) (put : ℕ)
+    (places : List Place) (placed : ArePlacedThen directory changes fresh list put places (map (λ place. place.home) places)) where
   abbrev homes : List ℕ
   homes = map (λ place. place.home) places
 
   abbrev count : ℕ
-  count = late_count (info_by directory) changes list put
+  count = late_count fresh list put
 
   abbrev given : List ℕ
-  given = map (given_home directory changes list) (range_with_len put count)
+  given = map (given_home directory changes fresh list) (range_with_len put count)
 
   given_long : length given ≡ count
-  given_long = length-map-range_with_len (given_home directory changes list) put count
+  given_long = length-map-range_with_len (given_home directory changes fresh list) put count
 
   given_at : (j : ℕ) → j < length homes → get_or given (index_at places j) 0 ≡ get_or homes j 0
   given_at j below =
       let each = placed.each j below in
-      get_or-map-range_with_len (given_home directory changes list) put count (index_at places j) (put + index_at places j) 0 (placed.inside j below) refl
+      get_or-map-range_with_len (given_home directory changes fresh list) put count (index_at places j) (put + index_at places j) 0 (placed.inside j below) refl
       ∙ ap (λ (o : Option FilePage). number_of (home_then directory changes o)) each.1
       ∙ ap number_of (home_is n directory changes are each.0 (get_or homes j 0) each.2)
 
@@ -120,7 +120,7 @@ module _ (n : ℕ) (directory : Directory) (changes : List Change) (are : AreFil
       (found.0, found.1, sym (given_at found.0 found.1) ∙ ap (λ k. get_or given k 0) found.2)
 
   -- a commit of theirs behind the directory's asks for the same as it does as they are given
-  pub late_staged : (m : ℕ) (second : Bool) (was : Bool → ℕ → ℕ) (k : ℕ) → IsPoolStaged m second was (late_homes directory changes places) k → IsPoolStaged m second was (given_homes directory changes list put) k
+  pub late_staged : (m : ℕ) (second : Bool) (was : Bool → ℕ → ℕ) (k : ℕ) → IsPoolStaged m second was (late_homes directory changes places) k → IsPoolStaged m second was (given_homes directory changes fresh list put) k
   late_staged =
       let own = changed_pages changes directory.pages in
       let one = length-append own homes in

@@ -6,7 +6,7 @@ use Rattle.directories.specs.declared.entry.Entry.{Entry}
 use Rattle.file_store.specs.Standing.{IsPageOf}
 use Rattle.growth.specs.Changes.{entries_after, AreChanges, TakesFreeHomes}
 use Rattle.growth.specs.declared.changes.Change.{Change}
-use Rattle.pool_growth.specs.Files.{files_after, file_page_count, StandsInList}
+use Rattle.pool_growth.specs.Files.{files_after, file_page_count, IsNewPage, StandsInList}
 use Rattle.pool_journal.specs.{Journal.{free_count}, Maps.{entries_of}}
 use Rattle.pool_store.specs.{Pools.{AreEntries}, Store.{files_of, info_by}}
 use Rattle.pool_store.specs.declared.{directory.Directory.{Directory}, store.PoolStore.{PoolStore}}
@@ -36,6 +36,13 @@ pub record AreFileChanges (n : ℕ) (directory : Directory) (list : List Change)
   -- and each page that a file has before and after keeps its home.
   pub keeps : (f k h : ℕ) → k < file_page_count (info_by directory f) → k < file_page_count (files_after (info_by directory) list f)
       → HasHome directory.entries.items f k h → HasHome (entries_then directory list) f k h
+
+-- New pages may be committed with changes:
+pub record AreNewPages (files : ℕ → Option FileInfo) (changes : List Change) (fresh : List FilePage) : Type 0 where
+  -- each is a new one,
+  pub new : (i : ℕ) (p : FilePage) → slice_get fresh i ≡ Some p → IsNewPage files changes p.file p.page
+  -- and none stands in the list twice.
+  pub distinct : (i j : ℕ) (p : FilePage) → i < j → slice_get fresh i ≡ Some p → slice_get fresh j ≡ Some p → ⊥
 
 -- Pages that were pages before may be committed with changes:
 pub record AreKeptPages {D : Type 0} (store : PoolStore D) (changes : List Change) (list : List FilePage) : Type 0 where

@@ -9,10 +9,10 @@ use Rattle.directories.specs.declared.entry.Entry.{Entry}
 use Rattle.growth.specs.{Changes.{AreChanges}, Parts.{extents_of_file, kept_count}, Refusals.{IsChangeRefused}}
 use Rattle.growth.specs.declared.changes.Change.{Change}
 use Rattle.pool_growth.specs.Asked.{changed_pages, entries_then}
-use Rattle.pool_growth.specs.Files.{files_after, file_page_count, StandsInList}
+use Rattle.pool_growth.specs.Files.{files_after, file_page_count, IsNewPage, StandsInList}
 use Rattle.pool_growth.specs.declared.faults.{BadChanges.{BadChanges}, BadPages.{BadPages}}
 use Rattle.pool_growth.specs.declared.faults.BadChanges.TheVariants.{Form, Large, Homes, Moved}
-use Rattle.pool_growth.specs.declared.faults.BadPages.TheVariants.{Order, Outside, End, TooMany}
+use Rattle.pool_growth.specs.declared.faults.BadPages.TheVariants.{Order, NotNew, Outside, End, TooMany}
 use Rattle.pool_journal.specs.{Journal.{free_count}, Maps.{entries_of}}
 use Rattle.pool_store.specs.{Files.{info_of}, Store.{entry_of, info_by}}
 use Rattle.pool_store.specs.declared.{directory.Directory.{Directory}, store.PoolStore.{PoolStore}}
@@ -91,10 +91,19 @@ HasEnd directory changes list f = ListsEnd list f (info_by directory f) (files_a
 abbrev pub HasAllEnds : Directory → List Change → List FilePage → Type 0
 HasAllEnds directory changes list = (f : ℕ) → HasEnd directory changes list f
 
--- why pages are refused: they don't rise; or this one is no page of its file before and after; or none is the last one of this file, which gets longer; or they
--- are more, with the changed pages of the directory, than slots are free
-abbrev pub ArePagesRefused : {D : Type 0} → PoolStore D → List Change → List FilePage → BadPages → Type 0
-ArePagesRefused store changes list Order = AllPairs PrecedesPage list → ⊥
-ArePagesRefused store changes list (Outside p) = IsNotKept store.directory changes list p
-ArePagesRefused store changes list (End f) = HasEnd store.directory changes list f → ⊥
-ArePagesRefused store changes list TooMany = free_count store.journal.sizes.blocks (entries_of store.journal.map) < length list + length (changed_pages changes store.directory.pages)
+-- each of these pages is a new one
+abbrev pub AreAllNew : Directory → List Change → List FilePage → Type 0
+AreAllNew directory changes fresh = All (λ p. IsNewPage (info_by directory) changes p.file p.page) fresh
+
+-- this one of the list is not
+abbrev pub IsNotNew : Directory → List Change → List FilePage → FilePage → Type 0
+IsNotNew directory changes fresh p = (i : ℕ) × (slice_get fresh i ≡ Some p) × (IsNewPage (info_by directory) changes p.file p.page → ⊥)
+
+-- why pages are refused: new ones or others don't rise; or this one is no new page; or this one no page of its file before and after; or none is the last one of this
+-- file, which gets longer; or these are more, with the changed pages of the directory, than slots are free
+abbrev pub ArePagesRefused : {D : Type 0} → PoolStore D → List Change → List FilePage → List FilePage → BadPages → Type 0
+ArePagesRefused store changes fresh list Order = AllPairs PrecedesPage fresh × AllPairs PrecedesPage list → ⊥
+ArePagesRefused store changes fresh list (NotNew p) = IsNotNew store.directory changes fresh p
+ArePagesRefused store changes fresh list (Outside p) = IsNotKept store.directory changes list p
+ArePagesRefused store changes fresh list (End f) = HasEnd store.directory changes list f → ⊥
+ArePagesRefused store changes fresh list TooMany = free_count store.journal.sizes.blocks (entries_of store.journal.map) < length list + length (changed_pages changes store.directory.pages)

@@ -4,7 +4,7 @@ use Rattle.vm_types.specs.declared.{file.FileInfo.{FileInfo}, file.FilePage.{Fil
 use Rattle.disk_model.specs.{Moments.{Touches, AsksOnly, LeavesOnly, LeavesNow}, Stop.{Image}}
 use Rattle.disk_model.specs.declared.sector_disk.SectorDisk.{Ghosts}
 use Rattle.growth.specs.declared.changes.Change.{Change}
-use Rattle.pool_growth.specs.{Asked.{entries_then}, Files.{files_after, ChangesFiles}, Late.{given_homes, put_count, slot_count}, Putting.{IsNewSector, IsPutSector}}
+use Rattle.pool_growth.specs.{Asked.{entries_then}, Files.{files_after, ChangesFiles}, Late.{given_homes, put_count, slot_count}, Putting.{IsBroughtSector, IsNewSector}}
 use Rattle.pool_journal.specs.{Committing.{IsPoolStaged, PoolCommitsInBlocks}, Gates.{IsPoolGate}, Journal.{free_count}, Maps.{entries_of}, Pools.{IsLoose}}
 use Rattle.pool_store.specs.{Files.{StoreLayout, StandsFor}, Store.{layout_of, IsReadyPool}}
 use Rattle.pool_store.specs.declared.store.PoolStore.{PoolStore}
@@ -22,10 +22,10 @@ abbrev pub IsChangedSector : {D : Type 0} → PoolStore D → List Change → �
 IsChangedSector store changes k = IsNewSector store.journal store.directory changes k
     ⊎ (IsPoolGate k ⊎ IsLoose store.journal.sizes.blocks store.journal.second (entries_of store.journal.map) k)
 
--- what they ask for: where new pages stand that take no slots, the gate, and what a commit of the pages that go into slots asks for before it
-abbrev pub IsChangeAsked : {D : Type 0} → PoolStore D → List Change → List FilePage → ℕ → Type 0
-IsChangeAsked store changes list k = IsPutSector store.journal store.directory changes (put_count store changes list) k
-    ⊎ (IsPoolGate k ⊎ IsPoolStaged store.journal.sizes.blocks store.journal.second (entries_of store.journal.map) (given_homes store.directory changes list (put_count store changes list)) k)
+-- what they ask for: where new pages stand that take no slots, or are zeros, the gate, and what a commit of the pages that go into slots asks for before it
+abbrev pub IsChangeAsked : {D : Type 0} → PoolStore D → List Change → List FilePage → List FilePage → ℕ → Type 0
+IsChangeAsked store changes fresh list k = IsBroughtSector store.journal store.directory changes fresh (put_count store changes fresh list) k
+    ⊎ (IsPoolGate k ⊎ IsPoolStaged store.journal.sizes.blocks store.journal.second (entries_of store.journal.map) (given_homes store.directory changes fresh list (put_count store changes fresh list)) k)
 
 module _ {D : Type 0} (g : Ghosts D) where
   -- Changes of files up to the sync of their new pages, or beyond that: then a commit. After whatever part of that a stop may spoil whole blocks.
@@ -36,26 +36,26 @@ module _ {D : Type 0} (g : Ghosts D) where
 
 module _ {D S : Type 0} (g : Ghosts D) (s : SourceGhosts S) where
   -- Files change, and pages of theirs, all at once, as the source gives them:
-  pub record CommitsChanges (old new : PoolStore D) (changes : List Change) (list : List FilePage) (given given' : S) (result : Result (Unit {0}) CommitFault) : Type 0 where
+  pub record CommitsChanges (old new : PoolStore D) (changes : List Change) (fresh list : List FilePage) (given given' : S) (result : Result (Unit {0}) CommitFault) : Type 0 where
     -- after Ok every image of a stop from now on stands for the files after, nothing is unsynced, and the store is ready, as long as the source keeps its model;
     pub ok : g.keeps_model new.disk → s.keeps_model given'
         → (files : ℕ → Option FileInfo) (before after : ℕ → ℕ → List ℕ) → LeavesNow g old.disk (StandsFor (layout_of old) (g.sector_count old.disk) files before)
-        → ChangesFiles files changes list (s.pages given) before after
+        → ChangesFiles files changes fresh list (s.pages given) before after
         → OnOk result (LeavesNow g new.disk (StandsFor (layout_of old) (g.sector_count old.disk) (files_after files changes) after))
     pub synced : g.keeps_model new.disk → OnOk result ((k : ℕ) → g.unsynced new.disk k → ⊥)
     pub ready : s.keeps_model given' → OnOk result (IsReadyPool g new)
     pub files : OnOk result (new.directory.entries.items ≡ entries_then old.directory changes)
     -- as many slots are free as a body has, where what went into slots took no more.
-    pub room : OnOk result (slot_count old.directory changes list (put_count old changes list) ≤ 504 * old.journal.sizes.blocks
+    pub room : OnOk result (slot_count old.directory changes fresh list (put_count old changes fresh list) ≤ 504 * old.journal.sizes.blocks
         → 504 * old.journal.sizes.blocks ≤ free_count old.journal.sizes.blocks (entries_of new.journal.map))
     -- Every image of a stop at any moment of the call stands for the files before or after, even one that spoils whole blocks of 4,096 bytes,
     pub any_moment : g.keeps_model new.disk → s.keeps_model given'
         → (files : ℕ → Option FileInfo) (before after : ℕ → ℕ → List ℕ) → LeavesNow g old.disk (StandsFor (layout_of old) (g.sector_count old.disk) files before)
-        → ChangesFiles files changes list (s.pages given) before after
+        → ChangesFiles files changes fresh list (s.pages given) before after
         → LeavesOnly g old.disk new.disk (StandsForOneOf (layout_of old) (g.sector_count old.disk) files before (files_after files changes) after)
     pub blocks : g.keeps_model new.disk → s.keeps_model given'
         → (files : ℕ → Option FileInfo) (before after : ℕ → ℕ → List ℕ) → LeavesNow g old.disk (StandsFor (layout_of old) (g.sector_count old.disk) files before)
-        → ChangesFiles files changes list (s.pages given) before after
+        → ChangesFiles files changes fresh list (s.pages given) before after
         → ChangesInBlocks g old changes (StandsForOneOf (layout_of old) (g.sector_count old.disk) files before (files_after files changes) after) old.disk new.disk
     -- and where the source failed, for those before. After an error the store is taken up anew.
     pub source : g.keeps_model new.disk → IsErrOf result Source
@@ -67,11 +67,11 @@ module _ {D S : Type 0} (g : Ghosts D) (s : SourceGhosts S) where
     pub pages : new.directory.pages ≡ old.directory.pages
     pub size : g.sector_count new.disk ≡ g.sector_count old.disk
     pub kept : g.keeps_model new.disk → g.keeps_model old.disk
-    -- No sector is asked for but those in which new pages stand that take no slots, the gate, free slots, the other map and, where slots run out, pages of others with
+    -- No sector is asked for but those of new pages that take no slots, or are zeros, the gate, free slots, the other map and, where slots run out, pages of others with
     -- their homes;
     -- and none is written but those in which new pages stand, the gate and what is loose.
     pub asks : Asks s given given'
-    pub asks_device : AsksOnly g (IsChangeAsked old changes list) old.disk new.disk
+    pub asks_device : AsksOnly g (IsChangeAsked old changes fresh list) old.disk new.disk
     pub touches : g.keeps_model new.disk → Touches g (IsChangedSector old changes) old.disk new.disk
     -- A fault is told exactly where the one that it names failed.
     pub causes : HasCauses (g.failures old.disk) (g.failures new.disk) (s.failures given) (s.failures given') result

@@ -32,8 +32,8 @@ abbrev pub files_sized : (ℕ → Option FileInfo) → List FileSize → ℕ →
 files_sized files sizes = files_after files (changes_to files sizes)
 
 -- what a commit of them with pages makes of the files' bytes
-abbrev pub SizesFiles : (ℕ → Option FileInfo) → List FileSize → List FilePage → (ℕ → List ℕ) → (ℕ → ℕ → List ℕ) → (ℕ → ℕ → List ℕ) → Type 0
-SizesFiles files sizes list given before after = ChangesFiles files (changes_to files sizes) list given before after
+abbrev pub SizesFiles : (ℕ → Option FileInfo) → List FileSize → List FilePage → List FilePage → (ℕ → List ℕ) → (ℕ → ℕ → List ℕ) → (ℕ → ℕ → List ℕ) → Type 0
+SizesFiles files sizes fresh list given before after = ChangesFiles files (changes_to files sizes) fresh list given before after
 
 -- A size may be asked of a directory with so many entries: its file has its place in it, and a number below 4,096, and is no longer than a file may be, unless it goes.
 pub record IsSizeFor (entries : ℕ) (s : FileSize) : Type 0 where

@@ -5,11 +5,11 @@ ghost use Rattle.std.specs.Option.{option_copied, option_map};
 ghost use Rattle.directories.specs.Homes.{homes_of};
 ghost use Rattle.growth.specs.Changes.{AreChanges};
 ghost use Rattle.growth.specs.Parts.{extents_of_file, kept_count};
-ghost use Rattle.pool_growth.specs.Asked.{changed_pages, AreFileChanges, AreKeptPages};
-ghost use Rattle.pool_growth.specs.Checks.{kept_home_count, AllKeepHomes, AreAllKept, AreChangesRefused, ArePagesRefused, BeginsInside, HasAllEnds, HasBadChange, HasEnd, HasKeptHomes, IsKeptPage, IsNotKept, IsSmallChange, ListsEnd, PrecedesPage};
-ghost use Rattle.pool_growth.specs.Files.{StandsInList};
+ghost use Rattle.pool_growth.specs.Asked.{changed_pages, AreFileChanges, AreKeptPages, AreNewPages};
+ghost use Rattle.pool_growth.specs.Checks.{kept_home_count, AllKeepHomes, AreAllKept, AreAllNew, AreChangesRefused, ArePagesRefused, BeginsInside, HasAllEnds, HasBadChange, HasEnd, HasKeptHomes, IsKeptPage, IsNotKept, IsNotNew, IsSmallChange, ListsEnd, PrecedesPage};
+ghost use Rattle.pool_growth.specs.Files.{IsNewPage, StandsInList};
 ghost use Rattle.pool_store.specs.Files.{info_of};
-ghost use Rattle.pool_store.specs.Store.{entry_of, IsReadyPool};
+ghost use Rattle.pool_store.specs.Store.{entry_of, files_of, info_by, IsReadyPool};
 
 use crate::changes::FileChanges;
 use crate::faults::{BadChanges, BadPages};
@@ -129,25 +129,30 @@ fn extents_of(file: Option<&Entry>) -> &[Extent]
     }
 }
 
-/// Whether a commit of these changes takes these pages: they rise, begin inside their files before and afterwards, have among them each last page that was not
-/// full of a file that gets longer, and are no more, with the changed pages of the directory, than slots are free. For each such file the list is walked once.
+/// Whether a commit of these changes takes these pages: new ones rise, and are new; the others rise, begin inside their files before and afterwards, have among them each
+/// last page that was not full of a file that gets longer, and are no more, with the changed pages of the directory, than slots are free. For each such file their list is
+/// walked once.
 ///
 /// # Errors
 ///
-/// Each comes only for its reason: `Order` where they don't rise, `Outside` where one is no page of its file before and afterwards, `End` where the last page of its
-/// file is missing, and `TooMany` where they are too many.
+/// Each comes only for its reason: `Order` where new ones or others don't rise, `NotNew` where one is no new page, `Outside` where one of the others is no page of its file
+/// before and afterwards, `End` where the last page of its file is missing, and `TooMany` where the others are too many.
 pub fn check_pages<D: SectorDisk>(
     store: &PoolStore<D>,
     asked: FileChanges<'_>,
 ) -> Result<(), BadPages>
     requires ready { IsReadyPool D.SectorDisk store.now }
     requires changes { AreFileChanges store.now.journal.sizes.homes store.now.directory asked.changes.now }
+    ensures new { OnOk result (AreNewPages (files_of store.now) asked.entry.changes.now asked.entry.fresh.now) }
     ensures good { OnOk result (AreKeptPages store.now asked.entry.changes.now asked.entry.pages.now) }
-    ensures rising { OnOk result (AllPairs PrecedesPage asked.entry.pages.now) }
-    ensures refused { IfErr result (ArePagesRefused store.now asked.entry.changes.now asked.entry.pages.now) }
+    ensures rising { OnOk result (AllPairs PrecedesPage asked.entry.fresh.now × AllPairs PrecedesPage asked.entry.pages.now) }
+    ensures refused { IfErr result (ArePagesRefused store.now asked.entry.changes.now asked.entry.fresh.now asked.entry.pages.now) }
 {
-    if !rise(asked.pages) {
+    if !rise(asked.fresh) || !rise(asked.pages) {
         return Err(BadPages::Order);
+    }
+    if let Some(page) = find_stale(&store.directory, asked) {
+        return Err(BadPages::NotNew(page));
     }
     if let Some(page) = find_outside(&store.directory, asked) {
         return Err(BadPages::Outside(page));
@@ -161,6 +166,29 @@ pub fn check_pages<D: SectorDisk>(
         return Err(BadPages::TooMany);
     }
     Ok(())
+}
+
+/// The first of the new pages that is none.
+fn find_stale(directory: &Directory, asked: FileChanges<'_>) -> Option<FilePage>
+    ensures { MatchOption result (AreAllNew directory.now asked.entry.changes.now asked.entry.fresh.now) (IsNotNew directory.now asked.entry.changes.now asked.entry.fresh.now) }
+{
+    for page in asked.fresh {
+        if !is_new(directory, asked.changes, *page) {
+            return Some(*page);
+        }
+    }
+    None
+}
+
+/// Whether a file has a page after changes that it had not before.
+fn is_new(directory: &Directory, changes: &[Change], page: FilePage) -> bool
+    ensures all { IsTrue result → IsNewPage (info_by directory.now) changes.now page.file page.page }
+    ensures one { IsFalse result → IsNewPage (info_by directory.now) changes.now page.file page.page → ⊥ }
+{
+    let file = usize::from(page.file);
+    let number = u64::from(page.page);
+    pages_of(directory.entry(file)) <= number
+        && number < pages_of(entry_then(directory, changes, file))
 }
 
 /// Whether these pages rise, by file and then by page.

@@ -1,8 +1,7 @@
 //! Changes of files, and pages of theirs, committed all at once.
 ghost use Rattle.std.specs.Prelude.{◌≡◌, ◌<◌, ◌+◌, ℕ, length};
-ghost use Rattle.pool_growth.specs.Asked.{AreFileChanges, AreKeptPages, entries_then};
+ghost use Rattle.pool_growth.specs.Asked.{AreFileChanges, AreKeptPages, AreNewPages, entries_then};
 ghost use Rattle.pool_growth.specs.Commit.{CommitsChanges};
-ghost use Rattle.pool_growth.specs.Files.{added_count};
 ghost use Rattle.pool_growth.specs.Front.{HasChangeRoom};
 ghost use Rattle.pool_store.specs.Store.{files_of, IsReadyPool};
 
@@ -11,23 +10,24 @@ use crate::front::ChangeRoom;
 use crate::late::Late;
 use crate::placing::{NewPages, put_new_pages};
 use crate::slots::{place_given, put_count};
-use disk_model::SectorDisk;
+use disk_model::WriteZeros;
 use growth::Change;
 use pool_store::{Directory, PoolStore};
 use sync_journal::{CommitFault, PageSource};
 
-/// Makes changes of files durable, and pages of theirs, all at once. The source gives first the new pages, which are those behind the last one that their file had, in
-/// the order of the changes, and then those of the list; each becomes zeros past its file's new end. A page that is neither is what it was.
+/// Makes changes of files durable, and pages of theirs, all at once. The source gives first new pages, which are among those behind the last one that their file had, and
+/// then those that were pages before; each becomes zeros past its file's new end. Any other new page becomes zeros, for which a device is asked a row of homes at a
+/// time, and any other page is what it was.
 ///
-/// The changes are such as `check_changes` takes, and the pages such as `check_pages` takes. Where there are 128 new pages at most, and these, those of the list and the
+/// The changes are such as `check_changes` takes, and the pages such as `check_pages` takes. Where 128 new pages at most are given, and these, the others and the
 /// changed ones of the directory are no more than the slots that are free, all of them go into slots, and it takes 2 syncs. Otherwise the new ones are put where they are
-/// to stand, and it takes 3.
+/// to stand, and it takes 3; so it does where new pages are not given.
 ///
 /// # Errors
 ///
 /// `Source` comes only where the source failed: every image that a stop might have left stands for the files before. `Device` comes only where the device failed: every
 /// one stands for the files before or for those after. After either the store is to be opened again.
-pub fn commit_changes<D: SectorDisk, S: PageSource>(
+pub fn commit_changes<D: WriteZeros, S: PageSource>(
     store: &mut PoolStore<D>,
     room: &mut ChangeRoom,
     asked: FileChanges<'_>,
@@ -36,13 +36,15 @@ pub fn commit_changes<D: SectorDisk, S: PageSource>(
     requires ready { IsReadyPool D.SectorDisk store.old }
     requires room { HasChangeRoom store.old.journal.sizes.blocks store.old.directory.pages room.old }
     requires changes { AreFileChanges store.old.journal.sizes.homes store.old.directory asked.changes.now }
+    requires fresh { AreNewPages (files_of store.old) asked.changes.now asked.fresh.now }
     requires pages { AreKeptPages store.old asked.changes.now asked.pages.now }
-    requires gives { (i : ℕ) → i < added_count (files_of store.old) asked.changes.now + length asked.pages.now → S.gives source.old i }
-    ensures { CommitsChanges D.SectorDisk S.PageSource store.old store.new asked.entry.changes.now asked.entry.pages.now source.old source.new result }
+    requires gives { (i : ℕ) → i < length asked.fresh.now + length asked.pages.now → S.gives source.old i }
+    ensures { CommitsChanges D.SectorDisk S.PageSource store.old store.new asked.entry.changes.now asked.entry.fresh.now asked.entry.pages.now source.old source.new result }
 {
     let put = put_count(store, asked);
     let new = NewPages {
         changes: asked.changes,
+        fresh: asked.fresh,
         count: put,
     };
     put_new_pages(

@@ -24,11 +24,13 @@ pub enum BadChanges {
 pub enum BadPages {
     /// They don't rise, by file and then by page.
     Order,
+    /// This page is none of the new ones: its file had it before, or has it not afterwards.
+    NotNew(FilePage),
     /// This page does not begin inside its file, before or afterwards.
     Outside(FilePage),
-    /// This file gets longer, its last page was not full, and is not among them.
+    /// This file gets longer, its last page was not full, and is not among those that it had before.
     End(u32),
-    /// They are more, with the changed pages of the directory, than slots are free.
+    /// Those that were pages before are more, with the changed pages of the directory, than slots are free.
     TooMany,
 }
 

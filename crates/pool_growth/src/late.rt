@@ -6,7 +6,6 @@ ghost use Rattle.pool_growth.specs.Files.{given_page};
 ghost use Rattle.pool_growth.specs.Late.{late_page, IsGiven};
 ghost use Rattle.pool_growth.specs.Putting.{inside_then};
 ghost use Rattle.pool_store.specs.Places.{index_at};
-ghost use Rattle.pool_store.specs.Store.{info_by};
 ghost use Rattle.sync_journal.specs.Source.{Asks};
 
 use crate::changes::FileChanges;
@@ -30,20 +29,20 @@ pub(crate) struct Late<'a, S> {
 impl<S> Late<'_, S> {
     /// How many bytes of a page that the source gives lie inside its file then.
     fn inside(&self, k: usize) -> usize
-        requires { IsGiven self.now.directory.now self.now.asked.changes.now self.now.asked.pages.now k }
-        ensures inside { result ≡ inside_then self.now.directory.now self.now.asked.changes.now (given_page (info_by self.now.directory.now) self.now.asked.changes.now self.now.asked.pages.now k) }
+        requires { IsGiven self.now.directory.now self.now.asked.changes.now self.now.asked.fresh.now self.now.asked.pages.now k }
+        ensures inside { result ≡ inside_then self.now.directory.now self.now.asked.changes.now (given_page self.now.asked.fresh.now self.now.asked.pages.now k) }
         ensures most { result ≤ 4096 }
     {
-        let page = given_page(self.directory, self.asked, k);
+        let page = given_page(self.asked, k);
         inside_then(self.directory, self.asked.changes, page)
     }
 }
 
 impl<S: PageSource> PageSource for Late<'_, S> {
-    ghost pages = { λ t j. late_page t.directory.now t.asked.changes.now t.asked.pages.now t.front.now t.places.now t.put (S.pages t.source.now) j };
+    ghost pages = { λ t j. late_page t.directory.now t.asked.changes.now t.asked.fresh.now t.asked.pages.now t.front.now t.places.now t.put (S.pages t.source.now) j };
 
     ghost gives = { λ t j. (j < length t.front.now + length t.places.now) × (length t.front.now ≤ j
-        → IsGiven t.directory.now t.asked.changes.now t.asked.pages.now (t.put + index_at t.places.now (j - length t.front.now))
+        → IsGiven t.directory.now t.asked.changes.now t.asked.fresh.now t.asked.pages.now (t.put + index_at t.places.now (j - length t.front.now))
         × S.gives t.source.now (t.put + index_at t.places.now (j - length t.front.now))) };
 
     ghost failures = { λ t. S.failures t.source.now };

@@ -3,7 +3,7 @@ ghost use Rattle.std.specs.Prelude.{◌≡◌, ◌≤◌, ◌<◌, ◌+◌, ◌^
 ghost use Rattle.std.specs.Option.{option_copied, option_map};
 ghost use Rattle.growth.specs.Changes.{change_of, entry_after};
 ghost use Rattle.pool_growth.specs.Asked.{AreFileChanges};
-ghost use Rattle.pool_growth.specs.Files.{added, added_count, given_page, new_page, file_page_count, HasThen};
+ghost use Rattle.pool_growth.specs.Files.{added, added_count, given_page, file_page_count, HasThen};
 ghost use Rattle.pool_growth.specs.Putting.{home_then, inside_then};
 ghost use Rattle.pool_store.specs.Files.{info_of};
 ghost use Rattle.pool_store.specs.Store.{info_by};
@@ -106,36 +106,14 @@ pub fn added_count(directory: &Directory, changes: &[Change]) -> usize
     count as usize
 }
 
-/// New page `i` of these changes.
-pub(crate) fn new_page(directory: &Directory, changes: &[Change], i: usize) -> FilePage
-    requires changes { (homes : ℕ) × AreFileChanges homes directory.now changes.now }
-    requires inside { i < added_count (info_by directory.now) changes.now }
-    ensures { new_page (info_by directory.now) changes.now i ≡ Some result }
-{
-    let mut left = i as u64;
-    for change in changes {
-        let count = added(directory, change);
-        if left < count {
-            let before = pages_of(directory.entry(change.file as usize));
-            return FilePage {
-                file: change.file as u16,
-                page: (before + left) as u32,
-            };
-        }
-        left -= count;
-    }
-    unreachable!()
-}
-
 /// Page `k` of those that the source gives: the new ones, and then those of the list.
-pub(crate) fn given_page(directory: &Directory, asked: FileChanges<'_>, k: usize) -> FilePage
-    requires changes { (homes : ℕ) × AreFileChanges homes directory.now asked.changes.now }
-    requires inside { k < added_count (info_by directory.now) asked.changes.now + length asked.pages.now }
-    ensures { given_page (info_by directory.now) asked.entry.changes.now asked.entry.pages.now k ≡ Some result }
+pub(crate) fn given_page(asked: FileChanges<'_>, k: usize) -> FilePage
+    requires { k < length asked.fresh.now + length asked.pages.now }
+    ensures { given_page asked.entry.fresh.now asked.entry.pages.now k ≡ Some result }
 {
-    let new = added_count(directory, asked.changes);
+    let new = asked.fresh.len();
     if k < new {
-        new_page(directory, asked.changes, k)
+        asked.fresh[k]
     } else {
         asked.pages[k - new]
     }

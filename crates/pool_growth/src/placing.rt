@@ -1,31 +1,34 @@
 //! New pages, written where they are to stand.
-ghost use Rattle.std.specs.Prelude.{◌≡◌, ◌<◌, ◌≤◌, ◌^◌, ℕ, None};
-ghost use Rattle.pool_growth.specs.Asked.{AreFileChanges};
-ghost use Rattle.pool_growth.specs.Files.{added_count};
-ghost use Rattle.pool_growth.specs.Putting.{HoldsNewPages, IsPutSector, PutsNewPages};
+ghost use Rattle.std.specs.Prelude.{◌≡◌, ◌<◌, ◌≤◌, ◌^◌, ℕ, length, None};
+ghost use Rattle.pool_growth.specs.Asked.{AreFileChanges, AreNewPages};
+ghost use Rattle.pool_growth.specs.Putting.{HoldsNewPages, IsPutSector, LiesOn, PutsNewPages};
 ghost use Rattle.pool_journal.specs.Journal.{IsPoolJournal};
 ghost use Rattle.pool_journal.specs.Maps.{entries_of};
 ghost use Rattle.pool_journal.specs.Pools.{pool_home, pool_stands, slot_by};
 ghost use Rattle.pool_store.specs.Store.{info_by, IsPoolOf};
 ghost use Rattle.sync_journal.specs.Steps.{FillsBody};
 
-use crate::lookups::{home_then, inside_then, new_page};
-use disk_model::SectorDisk;
+use crate::blanking::blank_new_pages;
+use crate::lookups::{added_count, home_then, inside_then};
+use disk_model::{SectorDisk, WriteZeros};
 use file_store::trim;
 use growth::Change;
 use pool_journal::PoolJournal;
 use pool_store::Directory;
 use sync_journal::{CommitFault, PageSource, write_page};
+use vm_types::FilePage;
 
-/// The first so many of the new pages of changes.
+/// New pages of changes, of which the first `count` are put where they are to stand.
 #[derive(Clone, Copy)]
 pub(crate) struct NewPages<'a> {
     pub changes: &'a [Change],
+    pub fresh: &'a [FilePage],
     pub count: usize,
 }
 
-/// Writes new pages, which the source gives first, where they are to stand, and syncs. Where there are none nothing is done.
-pub(crate) fn put_new_pages<D: SectorDisk, S: PageSource>(
+/// Writes new pages, which the source gives first, where they are to stand, and zeros in the place of those that it doesn't give, and syncs. Where there are none of
+/// either nothing is done.
+pub(crate) fn put_new_pages<D: WriteZeros, S: PageSource>(
     disk: &mut D,
     journal: &PoolJournal,
     directory: &Directory,
@@ -34,12 +37,17 @@ pub(crate) fn put_new_pages<D: SectorDisk, S: PageSource>(
 ) -> Result<(), CommitFault>
     requires is { IsPoolOf D.SectorDisk journal.now directory.now disk.old }
     requires changes { AreFileChanges journal.now.sizes.homes directory.now pages.changes.now }
-    requires few { pages.count ≤ added_count (info_by directory.now) pages.changes.now }
+    requires fresh { AreNewPages (info_by directory.now) pages.changes.now pages.fresh.now }
+    requires few { pages.count ≤ length pages.fresh.now }
     requires gives { (i : ℕ) → i < pages.count → S.gives source.old i }
-    ensures { PutsNewPages D.SectorDisk S.PageSource journal.now directory.now pages.entry.changes.now pages.entry.count disk.old disk.new source.old source.new result }
+    ensures { PutsNewPages D.SectorDisk S.PageSource journal.now directory.now pages.entry.changes.now pages.entry.fresh.now pages.entry.count disk.old disk.new source.old source.new result }
 {
-    if pages.count == 0 {
+    let sparse = pages.fresh.len() < added_count(directory, pages.changes);
+    if pages.count == 0 && !sparse {
         return Ok(());
+    }
+    if sparse {
+        blank_new_pages(disk, journal, directory, pages.changes)?;
     }
     write_new_pages(disk, journal, directory, pages, source)?;
     disk.sync()?;
@@ -54,18 +62,19 @@ fn write_new_pages<D: SectorDisk, S: PageSource>(
     pages: NewPages<'_>,
     source: &mut S,
 ) -> Result<(), CommitFault>
-    requires is { IsPoolOf D.SectorDisk journal.now directory.now disk.old }
+    requires on { LiesOn D.SectorDisk journal.now directory.now disk.old }
     requires changes { AreFileChanges journal.now.sizes.homes directory.now pages.changes.now }
-    requires few { pages.count ≤ added_count (info_by directory.now) pages.changes.now }
+    requires fresh { AreNewPages (info_by directory.now) pages.changes.now pages.fresh.now }
+    requires few { pages.count ≤ length pages.fresh.now }
     requires gives { (i : ℕ) → i < pages.count → S.gives source.old i }
-    ensures { FillsBody D.SectorDisk S.PageSource (IsPutSector journal.now directory.now pages.entry.changes.now pages.entry.count)
-        (IsPutSector journal.now directory.now pages.entry.changes.now pages.entry.count)
-        (HoldsNewPages journal.now directory.now pages.entry.changes.now (S.pages source.old) pages.entry.count (D.content disk.new)) disk.old disk.new source.old source.new result }
+    ensures { FillsBody D.SectorDisk S.PageSource (IsPutSector journal.now directory.now pages.entry.changes.now pages.entry.fresh.now pages.entry.count)
+        (IsPutSector journal.now directory.now pages.entry.changes.now pages.entry.fresh.now pages.entry.count)
+        (HoldsNewPages journal.now directory.now pages.entry.changes.now pages.entry.fresh.now (S.pages source.old) pages.entry.count (D.content disk.new)) disk.old disk.new source.old source.new result }
 {
     let given = journal.homes_given();
     let mut bytes = [0; 4096];
     for i in 0..pages.count {
-        let page = new_page(directory, pages.changes, i);
+        let page = pages.fresh[i];
         source.page(i, &mut bytes)?;
         trim(&mut bytes, inside_then(directory, pages.changes, page));
         let home = home_then(directory, pages.changes, page);

@@ -1,5 +1,5 @@
 //! Changes of files that make of them what a caller says.
-ghost use Rattle.std.specs.Prelude.{◌≡◌, ◌<◌, ◌≤◌, ◌≢◌, ◌^◌, length, IfErr, IfOk, IsTrue, IsFalse, MatchOption, slice_get, Some};
+ghost use Rattle.std.specs.Prelude.{◌≡◌, ◌<◌, ◌≤◌, ◌≢◌, ◌^◌, IfErr, IfOk, IsTrue, IsFalse, MatchOption, slice_get, Some};
 ghost use Rattle.std.specs.List.{AllPairs, All};
 ghost use Rattle.directories.specs.Homes.{pages_of_length};
 ghost use Rattle.directories.specs.Layouts.{entry_in};
@@ -66,8 +66,7 @@ fn change_for(
     size: &FileSize,
     room: Homes,
 ) -> Option<Change>
-    requires places { length directory.now.entries.items ≤ 4096 }
-    requires short { size.now.is_there ≢ 0 → size.now.length ≤ longest_file }
+    requires { size.now.is_there ≢ 0 → size.now.length ≤ longest_file }
     ensures { MatchOption result ((size.now.is_there ≢ 0) × HasNoRoom directory.now.entries.items done.now (entry_or_empty (entry_in directory.now.entries.items size.now.file)) (pages_of_length size.now.length) room)
         (IsProposed directory.now.entries.items room done.now size.now) }
 {

@@ -1,6 +1,7 @@
 pub mod Anew
 pub mod AllFree
 pub mod Asking
+pub mod Blanked
 pub mod BlockReads
 pub mod BlockWrites
 pub mod Bytes

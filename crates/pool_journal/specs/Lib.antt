@@ -2,6 +2,7 @@ pub mod Blocks
 pub mod Clearing
 pub mod Commit
 pub mod Committing
+pub mod Blanking
 pub mod Copying
 pub mod Filling
 pub mod Gates

@@ -23,6 +23,7 @@
 //! Integrity of Durable Data" (EuroSys 2013), which asks for this of one msync.
 #![tactic(auto)]
 
+mod blanking;
 mod clearing;
 mod committing;
 mod copying;

@@ -154,6 +154,15 @@ impl Pool {
         self.journal.tidy(&mut self.disk)
     }
 
+    /// Makes so many homes zeros from one on, where the device has them.
+    pub(crate) fn blank(&mut self, first: u32, count: u32) -> Result<Result<(), DiskFault>, Fail> {
+        let homes = self.journal.sizes().homes;
+        if first > homes || count > homes - first {
+            return Err(Fail::new("homes that the device doesn't have"));
+        }
+        Ok(self.journal.blank(&mut self.disk, first, count))
+    }
+
     /// The device fails in that call from now on, the first being 1.
     pub(crate) fn fail_in(&mut self, call: u64) {
         let calls = self.disk.disk.calls();

@@ -4,6 +4,8 @@
 #[cfg(test)]
 mod bench;
 #[cfg(test)]
+mod blanking;
+#[cfg(test)]
 mod commits;
 #[cfg(test)]
 mod openings;

@@ -2,7 +2,7 @@
 ghost use Rattle.std.specs.Prelude.{◌≡◌};
 ghost use Rattle.disk_model.specs.SimDisk.{sectors_in, sector_of, IsUnsynced, moment_of, LeftSince, failures_of, asked_of};
 
-use disk_model::{DiskFault, SectorDisk, SimDisk};
+use disk_model::{DiskFault, SectorDisk, SimDisk, WriteZeros};
 
 /// A device in memory that counts runs of writes: rows of sectors of which each one lies behind the one before, with no sync between.
 #[derive(Drop)]
@@ -88,3 +88,5 @@ impl SectorDisk for RunDisk {
         self.disk.sync()
     }
 }
+
+impl WriteZeros for RunDisk {}

@@ -1,13 +1,12 @@
 //! Files of a store with a pool that grow, come and go with a commit.
 ghost use Rattle.pool_store.specs.Store.{IsReadyPool};
+ghost use Rattle.std.specs.Prelude.{OnOk};
 
 use crate::bench::{FILES, Filled, LAST, equal, expect, left};
 use directories::{EXTENTS, Entry, Extent};
 use disk_model::{SectorDisk, SimDisk};
 use growth::Change;
-use pool_growth::{
-    ChangeRoom, FileChanges, added_count, check_changes, check_pages, commit_changes,
-};
+use pool_growth::{ChangeRoom, FileChanges, check_changes, check_pages, commit_changes};
 use pool_store::{PoolStore, format, image_bytes};
 use std::process::Abort;
 use sync_journal::CommitFault;
@@ -72,20 +71,44 @@ fn changes() -> [Change; 4] {
     ]
 }
 
-/// Makes the changes with page 1 of file 1, each page of its byte. A page of `!` makes the source fail.
+/// The new pages of these changes.
+const FRESH: [FilePage; 5] = [
+    FilePage { file: 0, page: 0 },
+    FilePage { file: 0, page: 1 },
+    FilePage { file: 0, page: 2 },
+    FilePage { file: 1, page: 2 },
+    FilePage { file: 3, page: 0 },
+];
+
+/// Makes the changes, with all their new pages and page 1 of file 1, each page of its byte. A page of `!` makes the source fail.
 fn change(
     rt: &(impl AllocGlobal + Abort),
     store: &mut PoolStore<SimDisk>,
     bytes: &[u8],
 ) -> Result<(), CommitFault>
     requires { IsReadyPool ⟦<SimDisk as SectorDisk>⟧ store.old }
+    ensures { OnOk result (IsReadyPool ⟦<SimDisk as SectorDisk>⟧ store.new) }
 {
     let changes = changes();
     let asked = FileChanges {
         changes: &changes,
+        fresh: &FRESH,
         pages: &[LAST],
     };
-    match check_changes(store, &changes) {
+    commit(rt, store, asked, bytes)
+}
+
+/// Makes changes, with pages each of its byte.
+fn commit(
+    rt: &(impl AllocGlobal + Abort),
+    store: &mut PoolStore<SimDisk>,
+    asked: FileChanges<'_>,
+    bytes: &[u8],
+) -> Result<(), CommitFault>
+    requires { IsReadyPool ⟦<SimDisk as SectorDisk>⟧ store.old }
+    ensures { OnOk result (IsReadyPool ⟦<SimDisk as SectorDisk>⟧ store.new) }
+{
+    match check_changes(store, asked.changes) {
         Ok(()) => {}
         Err(fault) => panic!(rt; "{fault:?}"),
     }
@@ -93,10 +116,9 @@ fn change(
         Ok(()) => {}
         Err(fault) => panic!(rt; "{fault:?}"),
     }
-    let count = added_count(&store.directory, &changes);
     expect(
         rt,
-        bytes.len() > 0 && count == bytes.len() - 1,
+        bytes.len() >= asked.fresh.len() && bytes.len() - asked.fresh.len() == asked.pages.len(),
         "not a byte for each page",
     );
     let mut room = ChangeRoom::new(rt.alloc(), store.journal.sizes(), store.directory.pages).expect(
@@ -206,4 +228,43 @@ fn a_source_that_fails_leaves_the_files_before(rt: HostRuntime) {
     let done = change(&rt, &mut store, b"ab!def");
     equal(&rt, done, Err(CommitFault::Source));
     equal(&rt, found(&rt, &store.disk, Some([255; 512])), BEFORE);
+}
+
+/// File 0 with so many bytes, in the homes that the changes give it.
+fn first_file(length: u64) -> [Change; 1] {
+    [Change {
+        file: 0,
+        entry: entry(length, (8, 2), (12, 1)),
+    }]
+}
+
+/// Gives file 0 so many bytes, with some of its new pages.
+fn resize(
+    rt: &(impl AllocGlobal + Abort),
+    store: &mut PoolStore<SimDisk>,
+    length: u64,
+    fresh: &[FilePage],
+    bytes: &[u8],
+) -> Result<(), CommitFault>
+    requires { IsReadyPool ⟦<SimDisk as SectorDisk>⟧ store.old }
+    ensures { OnOk result (IsReadyPool ⟦<SimDisk as SectorDisk>⟧ store.new) }
+{
+    let asked = FileChanges {
+        changes: &first_file(length),
+        fresh,
+        pages: &[],
+    };
+    commit(rt, store, asked, bytes)
+}
+
+/// File 0 is cut, and gets its pages again, of which page 1 alone is given: the homes of the others have their old bytes.
+#[test]
+fn new_pages_that_nobody_gives_are_zeros(rt: HostRuntime) {
+    let mut store = opened(&rt, made(&rt));
+    change(&rt, &mut store, b"abcdef").expect(&rt, "a commit");
+    store.tidy().expect(&rt, "pages at home");
+    resize(&rt, &mut store, 0, &[], b"").expect(&rt, "a cut");
+    resize(&rt, &mut store, 9000, &FRESH[1..2], b"x").expect(&rt, "new pages");
+    let after = [*b"\0x\0", *b"afd", *b"---", *b"e--"];
+    equal(&rt, found(&rt, &store.disk, None), after);
 }
