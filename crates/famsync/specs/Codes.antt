@@ -81,7 +81,7 @@ pub record TellsResizing (refusal : ResizeRefusal) (result : ℕ) : Type 0 where
   pub homes : result ≡ no_homes → refusal ≡ Resize.NoHomes
 
 -- Sizes that were asked for in turn are not done:
-pub record RefusesResizing (image : List (List ℕ)) (places : ℕ) (sizes : List FileSize) (list : List FilePage) (count : ℕ) (calls : List Call) (result : ℕ) : Type 0 where
+pub record RefusesResizing (image : List (List ℕ)) (places : ℕ) (sizes : List FileSize) (fresh list : List FilePage) (count : ℕ) (calls : List Call) (result : ℕ) : Type 0 where
   -- the result is `no_room` only where as many calls are listed as the lists have places,
   pub room : result ≡ no_room → AreCalls (length image) calls places
   -- `no_memory` only where mark and kind are those of a store with a pool,
@@ -89,7 +89,7 @@ pub record RefusesResizing (image : List (List ℕ)) (places : ℕ) (sizes : Lis
   -- `no_pool` only where the image is of no such store,
   pub none : result ≡ no_pool → IsNoPool (length image) (row image)
   -- `bad_pages` only where no commit takes the sizes with these pages,
-  pub pages : result ≡ bad_pages → AreResizable (length image) (row image) sizes list count → ⊥
+  pub pages : result ≡ bad_pages → AreResizable (length image) (row image) sizes fresh list count → ⊥
   -- `read_only` only where one of their files may only be read, or that of a page,
   pub read_only : result ≡ read_only → HasReadOnlySize (file_info (length image) (row image)) sizes ⊎ HasReadOnlyPage (file_info (length image) (row image)) list
   -- and `no_homes` only where there are none for a file;

@@ -208,9 +208,10 @@ pub extern "C" fn famsync_tidy(
     }
 }
 
-/// Plans that files get these sizes, and pages of theirs become durable with that, all at once: of an image of layout 4. `bytes` has first each new page, which is one
-/// behind the last that its file had, in the order of the sizes, and then page `pages[i]`; each with zeros past its file's end then. The sizes rise by file, the pages by
-/// file and page; these are pages of their files before and after, and have among them the last page of a file that gets longer, where it was not full.
+/// Plans that files get these sizes, and pages of theirs become durable with that, all at once: of an image of layout 4. `bytes` has first page `fresh[i]`, each of which is
+/// one behind the last that its file had, and then page `pages[i]`; each with zeros past its file's end then. Every other page behind the last that its file had becomes
+/// zeros, a row of homes by one call of kind 5. The sizes rise by file, both lists of pages by file and page; those of `pages` are pages of their files before and
+/// after, and have among them the last page of a file that gets longer, where it was not full.
 /// Returns 0, and the handle is pending then; 1 exactly where the handle is not ready; 4 to 9 as in `codes`. After another result than 0 the plan is empty and the
 /// handle as it was.
 #[unsafe(no_mangle)]
@@ -224,14 +225,15 @@ pub extern "C" fn famsync_resize(
     calls: &mut [Call],
     rows: &mut [[u8; 512]],
     sizes: &[FileSize],
+    fresh: &[FilePage],
     pages: &[FilePage],
     bytes: &[PageBytes<'_>],
 ) -> u32
-    ensures resizes { result ≡ done → PlansResizing image.now (room_of scratch_calls.old scratch_rows.old calls.old rows.old) sizes.now pages.now (length bytes.now) (lent_page bytes.now) calls.new rows.new used.new }
+    ensures resizes { result ≡ done → PlansResizing image.now (room_of scratch_calls.old scratch_rows.old calls.old rows.old) sizes.now fresh.now pages.now (length bytes.now) (lent_page bytes.now) calls.new rows.new used.new }
     ensures state { result ≡ done → (handle.old.state ≡ ready) × (handle.new.state ≡ pending) }
     ensures nothing { result ≢ done → (used.new ≡ 0) × (handle.new ≡ handle.old) }
     ensures turn { result ≡ out_of_turn ↔ handle.old.state ≢ ready }
-    ensures refused { handle.old.state ≡ ready → result ≢ done → RefusesResizing image.now (room_of scratch_calls.old scratch_rows.old calls.old rows.old) sizes.now pages.now (length bytes.now) calls.new result }
+    ensures refused { handle.old.state ≡ ready → result ≢ done → RefusesResizing image.now (room_of scratch_calls.old scratch_rows.old calls.old rows.old) sizes.now fresh.now pages.now (length bytes.now) calls.new result }
 {
     *used = 0;
     if handle.state != READY {
@@ -243,6 +245,7 @@ pub extern "C" fn famsync_resize(
     };
     let updates = SizeUpdates {
         sizes,
+        fresh,
         pages,
         bytes,
     };

@@ -1,7 +1,7 @@
 //! Who asks for plans and carries them out.
 ghost use Rattle.stores.specs.NewStores.{IsSizedNew};
 
-use disk_model::{SectorDisk, SimDisk};
+use disk_model::{SectorDisk, SimDisk, WriteZeros};
 use file_store::FileSource;
 use std::alloc::Global;
 use std::fmt::Debug;
@@ -100,10 +100,24 @@ impl Plan {
     pub(crate) fn counts(&self) -> [usize; 4] {
         let mut counts = [0usize; 4];
         for call in self.calls.iter().take(self.used) {
-            let kind = (call.kind.saturating_sub(1) % 4) as usize;
-            counts[kind] = counts[kind].saturating_add(1);
+            if call.kind < 5 {
+                let kind = (call.kind.saturating_sub(1) % 4) as usize;
+                counts[kind] = counts[kind].saturating_add(1);
+            }
         }
         counts
+    }
+
+    /// How many of its calls write zeros, and to how many pages.
+    pub(crate) fn zeroed(&self) -> (usize, u64) {
+        let (mut calls, mut pages) = (0usize, 0u64);
+        for call in self.calls.iter().take(self.used) {
+            if call.kind == 5 {
+                calls = calls.saturating_add(1);
+                pages = pages.saturating_add(call.from);
+            }
+        }
+        (calls, pages)
     }
 }
 
@@ -140,6 +154,7 @@ pub(crate) fn carry_out(
                 None => false,
             },
             4 => copy_page(disk, call.from, call.sector),
+            5 => zero_pages(disk, call.sector, call.from),
             _ => false,
         };
         if !is_made {
@@ -164,6 +179,14 @@ fn copy_page(disk: &mut SimDisk, from: u64, to: u64) -> bool {
         return false;
     }
     disk.read_page(from, &mut page).is_ok() && write_page(disk, to, &page)
+}
+
+/// Writes zeros to the sectors of so many pages from `n` on, which have to be there.
+fn zero_pages(disk: &mut SimDisk, n: u64, pages: u64) -> bool {
+    if n >= 0x10_0000 || pages >= 0x10_0000 || n + 8 * pages > disk.sectors() {
+        return false;
+    }
+    disk.write_zeros(n, pages).is_ok()
 }
 
 /// What is asked of an image.

@@ -71,26 +71,25 @@ impl Bench {
         expect(rt, is_done, "a plan that can't be carried out");
     }
 
-    /// Plans that the file is cut or gets longer, with these pages of bytes for pages that it has.
+    /// Plans that files get sizes, with pages of theirs.
     fn resize(
         &mut self,
         rt: &(impl AllocGlobal + Abort),
-        count: u32,
-        pages: &[FilePage],
-        bytes: &[PageBytes<'_>],
+        updates: SizeUpdates<'_>,
     ) -> Result<usize, ResizeRefusal> {
         let image = rows_of(rt, &self.disk);
-        let size = FileSize {
-            file: 0,
-            is_there: 1,
-            length: u64::from(count) * 4096,
-        };
-        let updates = SizeUpdates {
-            sizes: &[size],
-            pages,
-            bytes,
-        };
         self.client.resize(image.as_slice(), updates)
+    }
+
+    /// Plans that, and carries it out. So many of its calls write a row, sync, write a page that is lent, and copy one.
+    fn resized(
+        &mut self,
+        rt: &(impl AllocGlobal + Abort),
+        updates: SizeUpdates<'_>,
+        wanted: [usize; 4],
+    ) {
+        let answer = self.resize(rt, updates);
+        self.carry_plan(rt, answer.ok(), updates.bytes, wanted);
     }
 
     /// The byte that fills a page of the file.
@@ -105,10 +104,38 @@ impl Bench {
     }
 }
 
+/// The file with so many pages, the last of which is full.
+fn long(pages: u32) -> FileSize {
+    FileSize {
+        file: 0,
+        is_there: 1,
+        length: u64::from(pages) * 4096,
+    }
+}
+
+/// These sizes, with these new pages.
+fn grown<'a>(
+    sizes: &'a [FileSize],
+    fresh: &'a [FilePage],
+    bytes: &'a [PageBytes<'a>],
+) -> SizeUpdates<'a> {
+    SizeUpdates {
+        sizes,
+        fresh,
+        pages: &[],
+        bytes,
+    }
+}
+
 /// The first pages of the file, in rising order.
 fn first_pages(rt: &(impl AllocGlobal + Abort), count: u32) -> Vec<FilePage> {
+    pages_between(rt, 0, count)
+}
+
+/// The pages of the file from one up to another, which is none of them.
+fn pages_between(rt: &(impl AllocGlobal + Abort), first: u32, end: u32) -> Vec<FilePage> {
     let mut pages = Vec::new(rt.alloc());
-    for page in 0..count {
+    for page in first..end {
         pages.push(FilePage { file: 0, page }).expect(rt, "memory");
     }
     pages
@@ -171,8 +198,10 @@ fn pages_of_a_file_that_grew_take_a_call_each(rt: HostRuntime) {
     };
     let bytes = numbered_pages(&rt, 10);
     let lent = lent_of(&rt, bytes.as_slice());
-    let answer = bench.resize(&rt, 20, &[], lent.as_slice());
-    bench.carry_plan(&rt, answer.ok(), lent.as_slice(), [17, 2, 10, 0]);
+    let new = pages_between(&rt, 10, 20);
+    let sizes = [long(20)];
+    let updates = grown(&sizes, new.as_slice(), lent.as_slice());
+    bench.resized(&rt, updates, [17, 2, 10, 0]);
     let mut pages = first_pages(&rt, 20);
     for page in 0..10 {
         pages.push(FilePage { file: 1, page }).expect(&rt, "memory");
@@ -252,14 +281,55 @@ fn a_resize_makes_room_itself(rt: HostRuntime) {
     let pages = first_pages(&rt, 8);
     let bytes = pages_of(&rt, 8, 8);
     let lent = lent_of(&rt, bytes.as_slice());
-    let answer = bench.resize(&rt, 1050, pages.as_slice(), lent.as_slice());
-    bench.carry_plan(&rt, answer.ok(), lent.as_slice(), [26, 4, 8, 1000]);
+    let updates = SizeUpdates {
+        sizes: &[long(1050)],
+        fresh: &[],
+        pages: pages.as_slice(),
+        bytes: lent.as_slice(),
+    };
+    bench.resized(&rt, updates, [26, 4, 8, 1000]);
     for (page, byte) in [(0, 8), (1, 1), (7, 1), (8, 7), (999, 7), (1000, 0)] {
         equal(&rt, bench.byte_of(&rt, page), byte);
     }
     let more = first_pages(&rt, 1008);
     let bytes = pages_of(&rt, 9, 1008);
     let lent = lent_of(&rt, bytes.as_slice());
-    let answer = bench.resize(&rt, 1049, more.as_slice(), lent.as_slice());
+    let updates = SizeUpdates {
+        sizes: &[long(1049)],
+        fresh: &[],
+        pages: more.as_slice(),
+        bytes: lent.as_slice(),
+    };
+    let answer = bench.resize(&rt, updates);
     equal(&rt, answer, Err(ResizeRefusal::BadPages));
+}
+
+// A file of ten pages gets 1,000 more, all of them given: a call writes each. They are cut away, and come again, of which one is given: a call makes all of them zeros,
+// one writes that one, and the others bring a page of the directory, of eight rows, the map and the gate.
+#[test]
+fn new_pages_that_are_not_given_take_one_call(rt: HostRuntime) {
+    let mut files = [zeros(40960, false)];
+    let mut bench = Bench {
+        disk: made(&rt, NewStore::Pool(1), &mut files, 1000),
+        client: Client::new(&rt),
+    };
+    let all = pages_between(&rt, 10, 1010);
+    let bytes = Vec::from_elem(rt.alloc(), [7; 4096], 1000).expect(&rt, "memory");
+    let lent = lent_of(&rt, bytes.as_slice());
+    let sizes = [long(1010)];
+    let updates = grown(&sizes, all.as_slice(), lent.as_slice());
+    bench.resized(&rt, updates, [17, 3, 1000, 0]);
+    equal(&rt, bench.byte_of(&rt, 1009), 7);
+    bench.resized(&rt, grown(&[long(10)], &[], &[]), [17, 2, 0, 0]);
+    let bytes = [[8; 4096]];
+    let lent = lent_of(&rt, &bytes);
+    let one = [FilePage { file: 0, page: 555 }];
+    bench.resized(&rt, grown(&sizes, &one, lent.as_slice()), [17, 3, 1, 0]);
+    equal(&rt, bench.client.plan.zeroed(), (1, 1000));
+    let image = rows_of(&rt, &bench.disk);
+    for page in all.iter() {
+        let wanted = if page.page == 555 { 8 } else { 0 };
+        let byte = bench.client.byte(&rt, image.as_slice(), *page, 4096);
+        equal(&rt, byte, wanted);
+    }
 }

@@ -60,7 +60,7 @@ fn seen(length: u64, bytes: &[u8; 5]) -> Seen {
     }
 }
 
-/// One file gets three pages more, one is cut within its second page, one goes, and one comes. The new pages come first, in the order of the sizes.
+/// One file gets three pages more, one is cut within its second page, one goes, and one comes. The new pages come first.
 /// The last of these is cut, and so it takes eight rows; each other is one call. A page of the directory, the map
 /// and the gate take 17 rows and two syncs, and the two pages that were there a call each.
 #[test]
@@ -81,6 +81,7 @@ fn files_get_other_lengths_all_at_once(rt: HostRuntime) {
     let lent = lent_of(&rt, &bytes);
     let updates = SizeUpdates {
         sizes: &[long(0, 20480), long(1, 4100), gone(2), long(3, 4196)],
+        fresh: &[page(0, 2), page(0, 3), page(0, 4), page(3, 0), page(3, 1)],
         pages: &[page(0, 1), page(1, 0)],
         bytes: lent.as_slice(),
     };
@@ -98,18 +99,22 @@ fn files_get_other_lengths_all_at_once(rt: HostRuntime) {
     equal(&rt, client.files(&rt, image.as_slice()), after);
 }
 
-/// Asks for these sizes and pages, with so many pages of bytes.
+/// Sizes that are asked for, with new pages, and with pages that were pages before, and so many pages of bytes.
+type Ask<'a> = (&'a [FileSize], &'a [FilePage], &'a [FilePage], usize);
+
+/// Asks for that.
 fn asked(
     rt: &(impl AllocGlobal + Abort),
     client: &mut Client,
     image: &[[u8; 512]],
-    (sizes, pages, count): (&[FileSize], &[FilePage], usize),
+    (sizes, fresh, pages, count): Ask<'_>,
 ) -> Result<usize, ResizeRefusal> {
     let bytes = Vec::from_elem(rt.alloc(), [9; 4096], count).expect(rt, "memory");
     let lent = lent_of(rt, bytes.as_slice());
     let bytes = lent.as_slice();
     let updates = SizeUpdates {
         sizes,
+        fresh,
         pages,
         bytes,
     };
@@ -120,7 +125,7 @@ fn asked(
 fn refused(
     rt: &(impl AllocGlobal + Abort),
     image: &[[u8; 512]],
-    asks: &[(&[FileSize], &[FilePage], usize)],
+    asks: &[Ask<'_>],
     wanted: ResizeRefusal,
 ) {
     let mut client = Client::small(rt);
@@ -135,40 +140,43 @@ fn refused(
 fn bad_sizes_are_refused(rt: HostRuntime) {
     let image = rows_of(&rt, &new_store(&rt, NewStore::Pool(1)));
     let image = image.as_slice();
-    let bad: &[(&[FileSize], &[FilePage], usize)] = &[
+    let bad: &[Ask<'_>] = &[
         // The files don't rise, or have no place in the directory.
-        (&[gone(2), long(0, 4096)], &[], 0),
-        (&[long(0, 4096), long(0, 4096)], &[], 0),
-        (&[long(64, 0)], &[], 0),
+        (&[gone(2), long(0, 4096)], &[], &[], 0),
+        (&[long(0, 4096), long(0, 4096)], &[], &[], 0),
+        (&[long(64, 0)], &[], &[], 0),
         // The last page of a file that gets longer is missing.
-        (&[long(0, 5001)], &[], 0),
-        (&[long(0, 5001)], &[page(0, 0)], 1),
+        (&[long(0, 5001)], &[], &[], 0),
+        (&[long(0, 5001)], &[], &[page(0, 0)], 1),
         // There are too few bytes, or too many.
-        (&[long(0, 5001)], &[page(0, 1)], 0),
-        (&[long(0, 5001)], &[page(0, 1)], 2),
-        (&[gone(2)], &[], 1),
+        (&[long(0, 5001)], &[], &[page(0, 1)], 0),
+        (&[long(0, 5001)], &[], &[page(0, 1)], 2),
+        (&[gone(2)], &[], &[], 1),
         // A page is not in its file before or afterwards, or the pages don't rise.
-        (&[long(0, 4096)], &[page(0, 1)], 1),
-        (&[gone(2)], &[page(2, 0)], 1),
-        (&[long(0, 5001)], &[page(0, 1), page(0, 2)], 2),
-        (&[], &[page(2, 0), page(0, 0)], 2),
+        (&[long(0, 4096)], &[], &[page(0, 1)], 1),
+        (&[gone(2)], &[], &[page(2, 0)], 1),
+        (&[long(0, 5001)], &[], &[page(0, 1), page(0, 2)], 2),
+        (&[], &[], &[page(2, 0), page(0, 0)], 2),
+        // A new page was in its file before, or is not in it afterwards.
+        (&[long(0, 5001)], &[page(0, 1)], &[], 1),
+        (&[long(0, 5001)], &[page(0, 2)], &[page(0, 1)], 2),
     ];
     refused(&rt, image, bad, ResizeRefusal::BadPages);
-    let locked: &[(&[FileSize], &[FilePage], usize)] = &[
-        (&[long(1, 1)], &[], 0),
-        (&[gone(1)], &[], 0),
-        (&[long(0, 4096)], &[page(1, 0)], 1),
+    let locked: &[Ask<'_>] = &[
+        (&[long(1, 1)], &[], &[], 0),
+        (&[gone(1)], &[], &[], 0),
+        (&[long(0, 4096)], &[], &[page(1, 0)], 1),
     ];
     refused(&rt, image, locked, ResizeRefusal::ReadOnly);
-    let large: &[(&[FileSize], &[FilePage], usize)] = &[
-        (&[long(2, 4097)], &[], 1),
-        (&[long(3, 1)], &[], 1),
+    let large: &[Ask<'_>] = &[
+        (&[long(2, 4097)], &[], &[], 0),
+        (&[long(3, 1)], &[page(3, 0)], &[], 1),
         // The homes of a file that goes are free only afterwards.
-        (&[gone(2), long(3, 1)], &[], 1),
-        (&[long(0, 8193)], &[page(0, 1)], 2),
+        (&[gone(2), long(3, 1)], &[page(3, 0)], &[], 1),
+        (&[long(0, 8193)], &[page(0, 2)], &[page(0, 1)], 2),
     ];
     refused(&rt, image, large, ResizeRefusal::NoHomes);
-    let none: &[(&[FileSize], &[FilePage], usize)] = &[(&[long(0, 4096)], &[], 0), (&[], &[], 0)];
+    let none: &[Ask<'_>] = &[(&[long(0, 4096)], &[], &[], 0), (&[], &[], &[], 0)];
     let journal = rows_of(&rt, &new_store(&rt, NewStore::Journal));
     refused(&rt, journal.as_slice(), none, ResizeRefusal::NoPool);
     refused(&rt, &[], none, ResizeRefusal::NoPool);
@@ -188,7 +196,7 @@ fn sizes_alone_take_the_directory(rt: HostRuntime) {
     ] {
         let mut client = Client::with_room(&rt, room);
         let sizes = [long(0, 100), gone(2), long(63, 0)];
-        let answer = asked(&rt, &mut client, image.as_slice(), (&sizes, &[], 0));
+        let answer = asked(&rt, &mut client, image.as_slice(), (&sizes, &[], &[], 0));
         equal(&rt, answer, wanted);
     }
 }

@@ -1,52 +1,56 @@
 -- Plans that grow by a call.
-use Rattle.sync_plans.proofs.Names.{ℕ, zero, suc, ◌+◌, ◌<◌, ◌≤◌, ◌≡◌, ◌≢◌, ◌⊎◌, Bool, true, false, ◌&&◌, ◌||◌, ◌==◌, if◌then◌else◌, IsTrue, List, Option, Some, None, slice_get, length, inl, inr, ⊎_elim, refl, sym, ap, subst, ◌∙◌, arith}
-use Rattle.sync_plans.proofs.Names.{eq-eqb, ne_eqb, cases_eq, cases_lt, cases_Bool, false≢true, lt-ltb, le-leb, lt-leb, slice_get-get_or, get_or, fun_ext, ltb, part_of, Image, MayLeave, ChangesOnly, ChangesPage, IsOfPage, Elapses}
-use Rattle.sync_plans.specs.{declared.call.Call.{Call}, Plans.{row, is_of_page, writes_to, page_bytes, written_bytes, is_sync_call, is_left_unsynced, IsLeftUnsynced, image_after, is_written}, Device.{PlanLeftSince, Lists, NamesPage}}
+use Rattle.sync_plans.proofs.Names.{ℕ, zero, suc, ◌+◌, ◌*◌, ◌<◌, ◌≤◌, ◌≡◌, ◌≢◌, ◌⊎◌, Bool, true, false, ◌&&◌, ◌||◌, ◌==◌, if◌then◌else◌, IsTrue, List, Option, Some, None, slice_get, length, inl, inr, ⊎_elim, refl, sym, ap, subst, ◌∙◌, arith}
+use Rattle.sync_plans.proofs.Names.{eq-eqb, ne_eqb, cases_eq, cases_lt, cases_Bool, false≢true, lt-ltb, le-leb, lt-leb, slice_get-get_or, get_or, fun_ext, ltb, part_of, Image, MayLeave, ChangesOnly, ChangesPage, ChangesPages, IsOfPage, IsOfPages, Elapses}
+use Rattle.sync_plans.specs.{declared.call.Call.{Call}, Plans.{row, is_of_pages, pages_written, writes_to, page_bytes, written_bytes, is_sync_call, is_left_unsynced, IsLeftUnsynced, image_after, is_written}, Device.{PlanLeftSince, Lists, NamesPage}}
 
--- sectors of a page
-pub in_page : (first n : ℕ) → IsOfPage first n → is_of_page first n ≡ true
-in_page first n is = ap (λ (b : Bool). b && ltb n (first + 8)) (le-leb first n is.0) ∙ lt-ltb n (first + 8) is.1
+-- sectors of pages
+pub in_pages : (first pages n : ℕ) → IsOfPages first pages n → is_of_pages first pages n ≡ true
+in_pages first pages n is = ap (λ (b : Bool). b && ltb n (first + 8 * pages)) (le-leb first n is.0) ∙ lt-ltb n (first + 8 * pages) is.1
 
-pub out_of_page : (first n : ℕ) → (IsOfPage first n → ⊥) → is_of_page first n ≡ false
-out_of_page first n not = ⊎_elim
-    (λ before. ap (λ (b : Bool). b && ltb n (first + 8)) (lt-leb first n before))
+pub out_of_pages : (first pages n : ℕ) → (IsOfPages first pages n → ⊥) → is_of_pages first pages n ≡ false
+out_of_pages first pages n not = ⊎_elim
+    (λ before. ap (λ (b : Bool). b && ltb n (first + 8 * pages)) (lt-leb first n before))
     (λ from. ⊎_elim (λ below. absurd (not (from, below)))
-    (λ behind. ap (λ (b : Bool). b && ltb n (first + 8)) (le-leb first n from) ∙ lt-leb (suc n) (first + 8) (omega (arith, behind)))
-    (cases_lt n (first + 8)))
+    (λ behind. ap (λ (b : Bool). b && ltb n (first + 8 * pages)) (le-leb first n from) ∙ lt-leb (suc n) (first + 8 * pages) (omega (arith, behind)))
+    (cases_lt n (first + 8 * pages)))
     (cases_lt n first)
 
-pub is_or_not : (first n : ℕ) → IsOfPage first n ⊎ (IsOfPage first n → ⊥)
-is_or_not first n = ⊎_elim (λ before. inr (λ is. omega (arith, before, is.0)))
-    (λ from. ⊎_elim (λ below. inl (from, below)) (λ behind. inr (λ is. omega (arith, behind, is.1))) (cases_lt n (first + 8)))
+pub is_or_not : (first pages n : ℕ) → IsOfPages first pages n ⊎ (IsOfPages first pages n → ⊥)
+is_or_not first pages n = ⊎_elim (λ before. inr (λ is. omega (arith, before, is.0)))
+    (λ from. ⊎_elim (λ below. inl (from, below)) (λ behind. inr (λ is. omega (arith, behind, is.1))) (cases_lt n (first + 8 * pages)))
     (cases_lt n first)
 
-pub of_page : (first n : ℕ) → IsTrue (is_of_page first n) → IsOfPage first n
-of_page first n is = ⊎_elim (λ here. here) (λ not. absurd (false≢true (sym (out_of_page first n not) ∙ is))) (is_or_not first n)
+pub of_pages : (first pages n : ℕ) → IsTrue (is_of_pages first pages n) → IsOfPages first pages n
+of_pages first pages n is = ⊎_elim (λ here. here) (λ not. absurd (false≢true (sym (out_of_pages first pages n not) ∙ is))) (is_or_not first pages n)
 
--- a call of another kind than 1 writes to the sectors of its page, if to any
-pub page_writes : (call : Call) (n : ℕ) → 3 ≤ call.kind → writes_to (Some call) n ≡ is_of_page call.sector n
-page_writes call n page = rw (ne_eqb call.kind 1 (λ one. omega (arith, one, page)), le-leb 3 call.kind page) refl
+-- a call of another kind than 1 writes to the sectors of its pages, if to any
+pub pages_writes : (call : Call) (n : ℕ) → 3 ≤ call.kind → writes_to (Some call) n ≡ is_of_pages call.sector (pages_written call) n
+pages_writes call n paged = rw (ne_eqb call.kind 1 (λ one. omega (arith, one, paged)), le-leb 3 call.kind paged) refl
 
-pub page_written_to : (call : Call) (n : ℕ) → call.kind ≢ 1 → writes_to (Some call) n ≡ true → (3 ≤ call.kind) × IsOfPage call.sector n
-page_written_to call n other writes = ⊎_elim
+pub pages_written_to : (call : Call) (n : ℕ) → call.kind ≢ 1 → writes_to (Some call) n ≡ true → (3 ≤ call.kind) × IsOfPages call.sector (pages_written call) n
+pages_written_to call n other writes = ⊎_elim
     (λ less. let no : writes_to (Some call) n ≡ false = rw (ne_eqb call.kind 1 other, lt-leb 3 call.kind less) refl in absurd (false≢true (sym no ∙ writes)))
-    (λ page. (page, of_page call.sector n (sym (page_writes call n page) ∙ writes)))
+    (λ paged. (paged, of_pages call.sector (pages_written call) n (sym (pages_writes call n paged) ∙ writes)))
     (cases_lt call.kind 3)
+
+-- one of kind 3 or 4 to those of one
+pub one_page : (call : Call) → call.kind ≢ 5 → pages_written call ≡ 1
+one_page call other = ap (λ (b : Bool). if b then call.from else 1) (ne_eqb call.kind 5 other)
 
 pub not_written : (call : Call) (n : ℕ) → n < call.sector → writes_to (Some call) n ≡ false
 not_written call n before = ⊎_elim
     (λ one. rw (eq-eqb call.kind 1 one) (ne_eqb n call.sector (λ here. omega (arith, here, before))))
     (λ other. elim (cases_Bool (writes_to (Some call) n)) [
-      | inl writes ↦ let to = page_written_to call n other writes in absurd (let from = to.1.0 in omega (arith, before, from))
+      | inl writes ↦ let to = pages_written_to call n other writes in absurd (let from = to.1.0 in omega (arith, before, from))
       | inr not ↦ not
     ])
     (cases_eq call.kind 1)
 
-pub not_written_behind : (call : Call) (n : ℕ) → (call.kind ≡ 1 → call.sector + 1 ≤ n) → (call.kind ≢ 1 → call.sector + 8 ≤ n) → writes_to (Some call) n ≡ false
-not_written_behind call n sector page = ⊎_elim
+pub not_written_behind : (call : Call) (n : ℕ) → (call.kind ≡ 1 → call.sector + 1 ≤ n) → (call.kind ≢ 1 → call.sector + 8 * pages_written call ≤ n) → writes_to (Some call) n ≡ false
+not_written_behind call n sector paged = ⊎_elim
     (λ one. let behind = sector one in rw (eq-eqb call.kind 1 one) (ne_eqb n call.sector (λ here. omega (arith, here, behind))))
-    (λ other. let behind = page other in elim (cases_Bool (writes_to (Some call) n)) [
-      | inl writes ↦ let to = page_written_to call n other writes in absurd (let within = to.1.1 in omega (arith, behind, within))
+    (λ other. let behind = paged other in elim (cases_Bool (writes_to (Some call) n)) [
+      | inl writes ↦ let to = pages_written_to call n other writes in absurd (let within = to.1.1 in omega (arith, behind, within))
       | inr not ↦ not
     ])
     (cases_eq call.kind 1)
@@ -158,40 +162,68 @@ module _ {calls calls' : List Call} {rows rows' : List (List ℕ)} {used used' :
     pub still_unsynced : (k : ℕ) → IsLeftUnsynced calls used k → IsLeftUnsynced calls' used' k
     still_unsynced k u = subst IsTrue (sym (unsynced_written k)) (or_true (k == n) (is_left_unsynced calls used k) u)
 
-  -- a write of a page whose bytes are named
-  module _ (page : List ℕ) (names : NamesPage pages first call.sector page call) where
-    image_paged : (k : ℕ) → image_after calls' rows' pages first used' k ≡ (if is_of_page call.sector k then page_bytes pages first call k else image_after calls rows pages first used k)
+  -- a write of pages
+  module _ (paged : 3 ≤ call.kind) where
+    abbrev in_call : ℕ → Bool
+    in_call = is_of_pages call.sector (pages_written call)
+
+    image_paged : (k : ℕ) → image_after calls' rows' pages first used' k ≡ (if in_call k then page_bytes pages first call k else image_after calls rows pages first used k)
     image_paged k = image_now k
-        ∙ ap (λ (b : Bool). if b then written_bytes rows' pages first used (Some call) k else image_after calls rows pages first used k) (page_writes call k names.kind.0)
-        ∙ ap (λ (b : Bool). if is_of_page call.sector k then (if b then row rows' used else page_bytes pages first call k) else image_after calls rows pages first used k)
-        (ne_eqb call.kind 1 (λ one. let from = names.kind.0 in omega (arith, one, from)))
+        ∙ ap (λ (b : Bool). if b then written_bytes rows' pages first used (Some call) k else image_after calls rows pages first used k) (pages_writes call k paged)
+        ∙ ap (λ (b : Bool). if in_call k then (if b then row rows' used else page_bytes pages first call k) else image_after calls rows pages first used k)
+        (ne_eqb call.kind 1 (λ one. omega (arith, one, paged)))
 
-    unsynced_paged : (k : ℕ) → is_left_unsynced calls' used' k ≡ (is_of_page call.sector k || is_left_unsynced calls used k)
+    unsynced_paged : (k : ℕ) → is_left_unsynced calls' used' k ≡ (in_call k || is_left_unsynced calls used k)
     unsynced_paged k = unsynced_now k
-        ∙ ap (λ (b : Bool). if b then false else (writes_to (Some call) k || is_left_unsynced calls used k)) (ne_eqb call.kind 2 (λ two. let from = names.kind.0 in omega (arith, two, from)))
-        ∙ ap (λ (b : Bool). b || is_left_unsynced calls used k) (page_writes call k names.kind.0)
+        ∙ ap (λ (b : Bool). if b then false else (writes_to (Some call) k || is_left_unsynced calls used k)) (ne_eqb call.kind 2 (λ two. omega (arith, two, paged)))
+        ∙ ap (λ (b : Bool). b || is_left_unsynced calls used k) (pages_writes call k paged)
 
-    pub page_written : (i : ℕ) → i < 8 → image_after calls' rows' pages first used' (call.sector + i) ≡ part_of page i
-    page_written i lt = image_paged (call.sector + i)
-        ∙ ap (λ (b : Bool). if b then page_bytes pages first call (call.sector + i) else image_after calls rows pages first used (call.sector + i))
-        (in_page call.sector (call.sector + i) (omega arith, omega (arith, lt)))
-        ∙ names.bytes i lt
+    pub pages_hold : (k : ℕ) → IsOfPages call.sector (pages_written call) k → image_after calls' rows' pages first used' k ≡ page_bytes pages first call k
+    pages_hold k is = image_paged k
+        ∙ ap (λ (b : Bool). if b then page_bytes pages first call k else image_after calls rows pages first used k) (in_pages call.sector (pages_written call) k is)
 
-    pub page_changes : ChangesPage call.sector (image_after calls rows pages first used) (image_after calls' rows' pages first used')
-    page_changes = record {
-      others = λ k out. image_paged k ∙ ap (λ (b : Bool). if b then page_bytes pages first call k else image_after calls rows pages first used k) (out_of_page call.sector k out);
+    pub pages_change : ChangesPages call.sector (pages_written call) (image_after calls rows pages first used) (image_after calls' rows' pages first used')
+    pages_change = record {
+      others = λ k out. image_paged k
+          ∙ ap (λ (b : Bool). if b then page_bytes pages first call k else image_after calls rows pages first used k) (out_of_pages call.sector (pages_written call) k out);
     }
 
+    pub pages_unsynced_by : (k : ℕ) → IsLeftUnsynced calls' used' k → IsLeftUnsynced calls used k ⊎ IsOfPages call.sector (pages_written call) k
+    pages_unsynced_by k u = ⊎_elim (λ is. inr is)
+        (λ out. inl (subst IsTrue (unsynced_paged k ∙ ap (λ (b : Bool). b || is_left_unsynced calls used k) (out_of_pages call.sector (pages_written call) k out)) u))
+        (is_or_not call.sector (pages_written call) k)
+
+    pub pages_marked : (k : ℕ) → IsOfPages call.sector (pages_written call) k → IsLeftUnsynced calls' used' k
+    pages_marked k is = unsynced_paged k ∙ ap (λ (b : Bool). b || is_left_unsynced calls used k) (in_pages call.sector (pages_written call) k is)
+
+    pub pages_still : (k : ℕ) → IsLeftUnsynced calls used k → IsLeftUnsynced calls' used' k
+    pages_still k u = subst IsTrue (sym (unsynced_paged k)) (or_true (in_call k) (is_left_unsynced calls used k) u)
+
+  -- a write of one page whose bytes are named
+  module _ (page : List ℕ) (names : NamesPage pages first call.sector page call) where
+    one : pages_written call ≡ 1
+    one = one_page call (λ five. let most = names.kind.1 in omega (arith, five, most))
+
+    of_one : (k : ℕ) → IsOfPage call.sector k → IsOfPages call.sector (pages_written call) k
+    of_one k is = (is.0, let low = is.1 in omega (arith, low, one))
+
+    to_one : (k : ℕ) → IsOfPages call.sector (pages_written call) k → IsOfPage call.sector k
+    to_one k is = (is.0, let low = is.1 in omega (arith, low, one))
+
+    pub page_written : (i : ℕ) → i < 8 → image_after calls' rows' pages first used' (call.sector + i) ≡ part_of page i
+    page_written i lt = pages_hold names.kind.0 (call.sector + i) (of_one (call.sector + i) (omega arith, omega (arith, lt))) ∙ names.bytes i lt
+
+    pub page_changes : ChangesPage call.sector (image_after calls rows pages first used) (image_after calls' rows' pages first used')
+    page_changes = record { others = λ k out. (pages_change names.kind.0).others k (λ is. out (to_one k is)) }
+
     pub page_unsynced_by : (k : ℕ) → IsLeftUnsynced calls' used' k → IsLeftUnsynced calls used k ⊎ IsOfPage call.sector k
-    page_unsynced_by k u = ⊎_elim (λ is. inr is)
-        (λ out. inl (subst IsTrue (unsynced_paged k ∙ ap (λ (b : Bool). b || is_left_unsynced calls used k) (out_of_page call.sector k out)) u))
-        (is_or_not call.sector k)
+    page_unsynced_by k u = ⊎_elim (λ was. inl was) (λ is. inr (to_one k is)) (pages_unsynced_by names.kind.0 k u)
 
     pub page_marked : (k : ℕ) → IsOfPage call.sector k → IsLeftUnsynced calls' used' k
-    page_marked k is = unsynced_paged k ∙ ap (λ (b : Bool). b || is_left_unsynced calls used k) (in_page call.sector k is)
+    page_marked k is = pages_marked names.kind.0 k (of_one k is)
 
     pub page_still : (k : ℕ) → IsLeftUnsynced calls used k → IsLeftUnsynced calls' used' k
-    page_still k u = subst IsTrue (sym (unsynced_paged k)) (or_true (is_of_page call.sector k) (is_left_unsynced calls used k) u)
+    page_still = pages_still names.kind.0
 
   -- a sync
   module _ (syncs : call ≡ record { kind = 2; sector = 0; from = 0 }) where

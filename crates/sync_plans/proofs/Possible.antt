@@ -1,6 +1,6 @@
 -- What changes of files make of the pages before them: there is such a thing.
-use Rattle.sync_plans.proofs.Names.{ℕ, zero, suc, ◌+◌, ◌<◌, ◌≤◌, ◌≡◌, ◌⊎◌, List, [], ◌∷◌, Option, Some, slice_get, inl, inr, ⊎_elim, refl, sym, ap, subst, ◌∙◌, arith, cases_eq, cases_lt, false≢true, is_some, same_Some}
-use Rattle.sync_plans.proofs.Names.{FileInfo, FilePage, Change, Directory, IsPageOf, AreFileChanges, IsDirectoryOn, ChangesFiles, IsNewPage, StandsInList, added_count, cut_page, file_page_count, files_after, info_by, new_page, new_behind, new_found, new_once}
+use Rattle.sync_plans.proofs.Names.{ℕ, zero, suc, ◌+◌, ◌<◌, ◌≡◌, ◌⊎◌, List, [], ◌∷◌, Option, Some, slice_get, inl, inr, ⊎_elim, refl, sym, ap, subst, ◌∙◌, arith, cases_eq, cases_lt, false≢true, is_some, same_Some}
+use Rattle.sync_plans.proofs.Names.{FileInfo, FilePage, Change, IsPageOf, AreNewPages, ChangesFiles, IsNewPage, StandsInList, cut_page, file_page_count, files_after, length, zero_page}
 use Rattle.sync_plans.proofs.Changed.{same_page}
 
 -- a page is one of a list, or not
@@ -26,73 +26,76 @@ is_listed (p ∷ ps) f k = ⊎_elim
 pub page_inside : (files : ℕ → Option FileInfo) (f k : ℕ) → IsPageOf files f k → k < file_page_count (files f)
 page_inside files f k at = subst (λ o. k < file_page_count o) (sym at.1) (let inside = at.2 in omega (arith, inside))
 
--- Changes of a directory, with pages that were pages before:
-module _ (n : ℕ) (directory : Directory) (on : IsDirectoryOn n directory) (changes : List Change) (are : AreFileChanges n directory changes) (list : List FilePage)
-    (before_in : (i : ℕ) (p : FilePage) → slice_get list i ≡ Some p → IsPageOf (info_by directory) p.file p.page)
+-- Changes of files, with new pages, and with pages that were pages before:
+module _ (files : ℕ → Option FileInfo) (changes : List Change) (fresh : List FilePage) (news : AreNewPages files changes fresh) (list : List FilePage)
+    (before_in : (i : ℕ) (p : FilePage) → slice_get list i ≡ Some p → IsPageOf files p.file p.page)
     (distinct : (i j : ℕ) (p : FilePage) → i < j → slice_get list i ≡ Some p → slice_get list j ≡ Some p → ⊥) (given : ℕ → List ℕ) (before : ℕ → ℕ → List ℕ) where
-  abbrev files : ℕ → Option FileInfo
-  files = info_by directory
-
   abbrev then : ℕ → Option FileInfo
   then = files_after files changes
 
-  -- a new page is behind those that its file had
-  between : (f k : ℕ) → IsNewPage files changes f k → (file_page_count (files f) ≤ k) × (k < file_page_count (then f))
-  between f k new =
-      let at = new_behind n directory on changes are new.0 new.1 new.2 in
-      let had : file_page_count (files new.1.file) ≡ file_page_count (files f) = ap (λ x. file_page_count (files x)) new.3 in
-      let has : file_page_count (then new.1.file) ≡ file_page_count (then f) = ap (λ x. file_page_count (then x)) new.3 in
-      let page = new.4 in
-      (omega (arith, at.0, had, page), omega (arith, at.1, has, page))
+  abbrev Is_new : ℕ → ℕ → Type 0
+  Is_new = IsNewPage files changes
 
-  is_new : (f k : ℕ) → IsNewPage files changes f k ⊎ (IsNewPage files changes f k → ⊥)
+  is_new : (f k : ℕ) → Is_new f k ⊎ (Is_new f k → ⊥)
   is_new f k = ⊎_elim
-      (λ low. inr (λ new. (let at = between f k new in omega (arith, low, at.0))))
-      (λ past. ⊎_elim
-      (λ below. (let new = new_found n directory on changes are f k past below in inl (new.0, record { file = f; page = k }, new.2, refl, refl)))
-      (λ above. inr (λ new. (let at = between f k new in omega (arith, above, at.1))))
-      (cases_lt k (file_page_count (then f))))
+      (λ low. inr (λ new. omega (arith, low, new.0)))
+      (λ past. ⊎_elim (λ below. inl (past, below)) (λ above. inr (λ new. omega (arith, above, new.1))) (cases_lt k (file_page_count (then f))))
       (cases_lt k (file_page_count (files f)))
 
-  not_both : (i : ℕ) (p : FilePage) → slice_get list i ≡ Some p → IsNewPage files changes p.file p.page → ⊥
-  not_both i p is new =
-      let at = between p.file p.page new in
-      let inside = page_inside files p.file p.page (before_in i p is) in
-      omega (arith, at.0, inside)
+  not_both : (i : ℕ) (p : FilePage) → slice_get list i ≡ Some p → Is_new p.file p.page → ⊥
+  not_both i p is new = (let inside = page_inside files p.file p.page (before_in i p is) in omega (arith, new.0, inside))
 
-  -- its page is the one that is given for it, or what it was
-  abbrev made : (f k : ℕ) → IsNewPage files changes f k ⊎ (IsNewPage files changes f k → ⊥) → StandsInList list f k ⊎ (StandsInList list f k → ⊥) → List ℕ
-  made f k (inl new) listed = cut_page (then f) k (given new.0)
-  made f k (inr none) (inl at) = cut_page (then f) k (given (added_count files changes + at.0))
-  made f k (inr none) (inr other) = cut_page (then f) k (before f k)
+  new_listed : (f k : ℕ) → StandsInList fresh f k → Is_new f k
+  new_listed f k at = subst (λ g. Is_new g k) at.3 (subst (λ n. Is_new at.1.file n) at.4 (news.new at.0 at.1 at.2))
 
-  as_added : (i : ℕ) (p : FilePage) → new_page files changes i ≡ Some p → (new : IsNewPage files changes p.file p.page ⊎ (IsNewPage files changes p.file p.page → ⊥))
-      (listed : StandsInList list p.file p.page ⊎ (StandsInList list p.file p.page → ⊥)) → made p.file p.page new listed ≡ cut_page (then p.file) p.page (given i)
-  as_added i p is (inl new) listed = ap (λ j. cut_page (then p.file) p.page (given j))
-      (new_once n directory on changes are new.0 i p (new.2 ∙ ap Some (same_page p new.1 new.3 new.4)) is)
-  as_added i p is (inr none) listed = absurd (none (i, p, is, refl, refl))
+  -- a page stands in a list without repetitions once
+  once : (pages : List FilePage) → ((i j : ℕ) (p : FilePage) → i < j → slice_get pages i ≡ Some p → slice_get pages j ≡ Some p → ⊥)
+      → (i : ℕ) (p : FilePage) → slice_get pages i ≡ Some p → (at : StandsInList pages p.file p.page) → at.0 ≡ i
+  once pages apart i p is at =
+      let there : slice_get pages at.0 ≡ Some p = at.2 ∙ ap Some (same_page p at.1 at.3 at.4) in
+      ⊎_elim (λ low. absurd (apart at.0 i p low there is)) (λ past. ⊎_elim (λ high. absurd (apart i at.0 p high is there)) (λ under. omega (arith, past, under)) (cases_lt i at.0)) (cases_lt at.0 i)
 
-  as_listed : (i : ℕ) (p : FilePage) → slice_get list i ≡ Some p → (new : IsNewPage files changes p.file p.page ⊎ (IsNewPage files changes p.file p.page → ⊥))
-      (listed : StandsInList list p.file p.page ⊎ (StandsInList list p.file p.page → ⊥)) → made p.file p.page new listed ≡ cut_page (then p.file) p.page (given (added_count files changes + i))
-  as_listed i p is (inl new) listed = absurd (not_both i p is new)
-  as_listed i p is (inr none) (inl at) =
-      let there : slice_get list at.0 ≡ Some p = at.2 ∙ ap Some (same_page p at.1 at.3 at.4) in
-      ap (λ j. cut_page (then p.file) p.page (given (added_count files changes + j)))
-      (⊎_elim (λ low. absurd (distinct at.0 i p low there is)) (λ past. ⊎_elim (λ high. absurd (distinct i at.0 p high is there)) (λ under. omega (arith, past, under)) (cases_lt i at.0)) (cases_lt at.0 i))
-  as_listed i p is (inr none) (inr other) = absurd (other (i, p, is, refl, refl))
+  -- its page is the one that is given for it, zeros, or what it was
+  abbrev made : (f k : ℕ) → StandsInList fresh f k ⊎ (StandsInList fresh f k → ⊥) → Is_new f k ⊎ (Is_new f k → ⊥) → StandsInList list f k ⊎ (StandsInList list f k → ⊥) → List ℕ
+  made f k (inl at) new listed = cut_page (then f) k (given at.0)
+  made f k (inr unnamed) (inl new) listed = zero_page
+  made f k (inr unnamed) (inr none) (inl at) = cut_page (then f) k (given (length fresh + at.0))
+  made f k (inr unnamed) (inr none) (inr other) = cut_page (then f) k (before f k)
 
-  as_other : (f k : ℕ) → (IsNewPage files changes f k → ⊥) → (StandsInList list f k → ⊥) → (new : IsNewPage files changes f k ⊎ (IsNewPage files changes f k → ⊥))
-      (listed : StandsInList list f k ⊎ (StandsInList list f k → ⊥)) → made f k new listed ≡ cut_page (then f) k (before f k)
-  as_other f k old unlisted (inl new) listed = absurd (old new)
-  as_other f k old unlisted (inr none) (inl at) = absurd (unlisted at)
-  as_other f k old unlisted (inr none) (inr other) = refl
+  as_added : (i : ℕ) (p : FilePage) → slice_get fresh i ≡ Some p → (named : StandsInList fresh p.file p.page ⊎ (StandsInList fresh p.file p.page → ⊥))
+      (new : Is_new p.file p.page ⊎ (Is_new p.file p.page → ⊥)) (listed : StandsInList list p.file p.page ⊎ (StandsInList list p.file p.page → ⊥))
+      → made p.file p.page named new listed ≡ cut_page (then p.file) p.page (given i)
+  as_added i p is (inl at) new listed = ap (λ j. cut_page (then p.file) p.page (given j)) (once fresh news.distinct i p is at)
+  as_added i p is (inr unnamed) new listed = absurd (unnamed (i, p, is, refl, refl))
 
-  pub some_pages : (after : ℕ → ℕ → List ℕ) × ChangesFiles files changes list given before after
+  as_blank : (f k : ℕ) → Is_new f k → (StandsInList fresh f k → ⊥) → (named : StandsInList fresh f k ⊎ (StandsInList fresh f k → ⊥))
+      (new : Is_new f k ⊎ (Is_new f k → ⊥)) (listed : StandsInList list f k ⊎ (StandsInList list f k → ⊥)) → made f k named new listed ≡ zero_page
+  as_blank f k is out (inl at) new listed = absurd (out at)
+  as_blank f k is out (inr unnamed) (inl new) listed = refl
+  as_blank f k is out (inr unnamed) (inr none) listed = absurd (none is)
+
+  as_listed : (i : ℕ) (p : FilePage) → slice_get list i ≡ Some p → (named : StandsInList fresh p.file p.page ⊎ (StandsInList fresh p.file p.page → ⊥))
+      (new : Is_new p.file p.page ⊎ (Is_new p.file p.page → ⊥)) (listed : StandsInList list p.file p.page ⊎ (StandsInList list p.file p.page → ⊥))
+      → made p.file p.page named new listed ≡ cut_page (then p.file) p.page (given (length fresh + i))
+  as_listed i p is (inl at) new listed = absurd (not_both i p is (new_listed p.file p.page at))
+  as_listed i p is (inr unnamed) (inl new) listed = absurd (not_both i p is new)
+  as_listed i p is (inr unnamed) (inr none) (inl at) = ap (λ j. cut_page (then p.file) p.page (given (length fresh + j))) (once list distinct i p is at)
+  as_listed i p is (inr unnamed) (inr none) (inr other) = absurd (other (i, p, is, refl, refl))
+
+  as_other : (f k : ℕ) → (Is_new f k → ⊥) → (StandsInList list f k → ⊥) → (named : StandsInList fresh f k ⊎ (StandsInList fresh f k → ⊥))
+      (new : Is_new f k ⊎ (Is_new f k → ⊥)) (listed : StandsInList list f k ⊎ (StandsInList list f k → ⊥)) → made f k named new listed ≡ cut_page (then f) k (before f k)
+  as_other f k old unlisted (inl at) new listed = absurd (old (new_listed f k at))
+  as_other f k old unlisted (inr unnamed) (inl new) listed = absurd (old new)
+  as_other f k old unlisted (inr unnamed) (inr none) (inl at) = absurd (unlisted at)
+  as_other f k old unlisted (inr unnamed) (inr none) (inr other) = refl
+
+  pub some_pages : (after : ℕ → ℕ → List ℕ) × ChangesFiles files changes fresh list given before after
   some_pages = (
-    λ f k. made f k (is_new f k) (is_listed list f k),
+    λ f k. made f k (is_listed fresh f k) (is_new f k) (is_listed list f k),
     record {
-      added = λ i p is. as_added i p is (is_new p.file p.page) (is_listed list p.file p.page);
-      listed = λ i p is. as_listed i p is (is_new p.file p.page) (is_listed list p.file p.page);
-      others = λ f k old unlisted. as_other f k old unlisted (is_new f k) (is_listed list f k);
+      added = λ i p is. as_added i p is (is_listed fresh p.file p.page) (is_new p.file p.page) (is_listed list p.file p.page);
+      blank = λ f k new out. as_blank f k new out (is_listed fresh f k) (is_new f k) (is_listed list f k);
+      listed = λ i p is. as_listed i p is (is_listed fresh p.file p.page) (is_new p.file p.page) (is_listed list p.file p.page);
+      others = λ f k old unlisted. as_other f k old unlisted (is_listed fresh f k) (is_new f k) (is_listed list f k);
     },
   )

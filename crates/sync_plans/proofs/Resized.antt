@@ -1,9 +1,9 @@
 -- Sizes that files of an open store get by changes, or that are refused, in the words of its image.
 use Rattle.sync_plans.proofs.Names.{ℕ, ◌*◌, ◌≡◌, ◌⊎◌, Bool, List, Option, Result, Err, IfErr-weaker, length, inr, ⊎_elim, refl, sym, ap, subst, ◌∙◌, arith, fun_ext, on_ok_weaker}
-use Rattle.sync_plans.proofs.Names.{Ghosts, Image, LeavesNow, LeavesOnly, DiskFault, FileInfo, FilePage, Change, PoolStore, Pool, IsReadyPool, FreesSlots, added_count, files_after, info_by}
+use Rattle.sync_plans.proofs.Names.{Ghosts, Image, LeavesNow, LeavesOnly, DiskFault, FileInfo, FilePage, Change, PoolStore, Pool, IsReadyPool, FreesSlots, IsNewPage, files_after, info_by}
 use Rattle.sync_plans.proofs.Names.{StandsFor, capacity_by, capacity_pages, by_head, files_said, file_info, head_of, is_pool, pool_home_count, ImageSays}
 use Rattle.std.specs.Prelude.{slice_index_or}
-use Rattle.sync_plans.proofs.{Grown.{has_head, stays_freed}, Sized.{changed_same, changes_as_sizes, count_same, files_same}}
+use Rattle.sync_plans.proofs.{Grown.{has_head, stays_freed}, Sized.{changed_same, changes_as_sizes, files_same, new_said, new_same}}
 use Rattle.sync_plans.specs.{Resizing.{AreAllWritable, AreBrought, AreResizable, ChangesOpenStore, ChangesStore, HasReadOnlyPage, HasReadOnlySize, LacksHomesIn, RefusesChanges, RefusesSizesOf, ResizesOpenStore, ResizesStore}}
 use Rattle.sync_plans.specs.declared.{lent_pages.PageBytes.{PageBytes}, resizing.{ResizeRefusal.{ResizeRefusal}, ResizeRefusal.TheVariants.{Device}}}
 use Rattle.pool_growth.specs.{Asked.{changed_pages}, Checks.{BeginsInside, ListsEnd}, Sizes.{changes_to, files_sized, room_behind, AreSizes, LacksHomes, SaySizes}, declared.sizes.FileSize.{FileSize}}
@@ -80,12 +80,18 @@ module _ {D : Type 0} (g : Ghosts D) (old : PoolStore D) (ready : IsReadyPool g 
       same_changed : length (changed_pages changes old.directory.pages) ≡ length (changed_pages (changes_to (file_info all content) sizes) (directory_pages content))
       same_changed = ap length (changed_same (file_info all content) sizes changes said old.directory.pages ∙ ap (changed_pages (changes_to (file_info all content) sizes)) (sym same_pages))
 
-      same_added : added_count (info_by old.directory) changes ≡ added_count (file_info all content) (changes_to (file_info all content) sizes)
-      same_added = ap (λ (files : ℕ → Option FileInfo). added_count files changes) same_files ∙ count_same (file_info all content) sizes changes said
+      -- bring the new pages that these ask for,
+      same_new : (f k : ℕ) → IsNewPage (info_by old.directory) changes f k → IsNewPage (file_info all content) (changes_to (file_info all content) sizes) f k
+      same_new f k new = new_same (file_info all content) sizes changes said f k (subst (λ (files : ℕ → Option FileInfo). IsNewPage files changes f k) same_files new)
+
+      new_of_sizes : (f k : ℕ) → IsNewPage (file_info all content) (changes_to (file_info all content) sizes) f k → IsNewPage (info_by old.directory) changes f k
+      new_of_sizes f k new = subst (λ (files : ℕ → Option FileInfo). IsNewPage files changes f k) (sym same_files) (new_said (file_info all content) sizes changes said f k new)
 
       -- are brought with pages where the sizes are good for them,
-      pub are_brought : (list : List FilePage) (count : ℕ) → AreResizable all content sizes list count → AreBrought m old.directory changes list count
-      are_brought list count may = record {
+      pub are_brought : (fresh list : List FilePage) (count : ℕ) → AreResizable all content sizes fresh list count → AreBrought m old.directory changes fresh list count
+      are_brought fresh list count may = record {
+        fresh_rise = may.fresh_rise;
+        new = λ k d low. new_of_sizes (slice_index_or fresh k d).file (slice_index_or fresh k d).page (may.new k d low);
         rising = may.rising;
         kept = λ k d low. (
           subst (λ (files : ℕ → Option FileInfo). BeginsInside (files (slice_index_or list k d).file) (slice_index_or list k d).page) (sym same_files) (may.before k d low),
@@ -98,13 +104,15 @@ module _ {D : Type 0} (g : Ghosts D) (old : PoolStore D) (ready : IsReadyPool g 
             let most = same_capacity in
             let few = may.few in
             omega (arith, changed, most, few);
-        all = (let added = same_added in let sum = may.all in omega (arith, added, sum));
+        all = may.all;
       }
 
       -- and the sizes are good for them where they are,
-      are_resizable : AreSizes (length old.directory.entries.items) sizes → (list : List FilePage) (count : ℕ) → AreBrought m old.directory changes list count → AreResizable all content sizes list count
-      are_resizable asked list count are = record {
+      are_resizable : AreSizes (length old.directory.entries.items) sizes → (fresh list : List FilePage) (count : ℕ) → AreBrought m old.directory changes fresh list count → AreResizable all content sizes fresh list count
+      are_resizable asked fresh list count are = record {
         may = subst (λ k. AreSizes k sizes) (ready.is_directory.size ∙ ap (λ d. 16 * d) (sym same_pages)) asked;
+        fresh_rise = are.fresh_rise;
+        new = λ k d low. same_new (slice_index_or fresh k d).file (slice_index_or fresh k d).page (are.new k d low);
         rising = are.rising;
         before = λ k d low.
             subst (λ (files : ℕ → Option FileInfo). BeginsInside (files (slice_index_or list k d).file) (slice_index_or list k d).page) same_files (are.kept k d low).0;
@@ -116,23 +124,23 @@ module _ {D : Type 0} (g : Ghosts D) (old : PoolStore D) (ready : IsReadyPool g 
             let most = same_capacity in
             let few = are.few in
             omega (arith, changed, most, few);
-        all = (let added = same_added in let sum = are.all in omega (arith, added, sum));
+        all = are.all;
       }
 
       -- make of the files what those do,
-      pub resizes_store : (new : D) (list : List FilePage) (count : ℕ) (given : ℕ → List ℕ) → AreSizes (length old.directory.entries.items) sizes → AreAllWritable (info_by old.directory) sizes list
-          → ChangesStore g old new changes list count given → ResizesStore g old.disk new sizes list count given
-      resizes_store new list count given asked writable c = record {
+      pub resizes_store : (new : D) (fresh list : List FilePage) (count : ℕ) (given : ℕ → List ℕ) → AreSizes (length old.directory.entries.items) sizes → AreAllWritable (info_by old.directory) sizes list
+          → ChangesStore g old new changes fresh list count given → ResizesStore g old.disk new sizes fresh list count given
+      resizes_store new fresh list count given asked writable c = record {
         store = c.store;
         pool = c.pool;
         writable = subst (λ (files : ℕ → Option FileInfo). AreAllWritable files sizes list) same_files writable;
-        resizable = are_resizable asked list count c.brought;
+        resizable = are_resizable asked fresh list count c.brought;
         ok = λ files before after left sized. subst (λ (now : ℕ → Option FileInfo). LeavesNow g new (StandsFor all now after)) (fun_ext (files_same files sizes changes (says_of files before left)))
-            (c.ok files before after left (changes_as_sizes files sizes changes (says_of files before left) list given before after sized));
+            (c.ok files before after left (changes_as_sizes files sizes changes (says_of files before left) fresh list given before after sized));
         synced = c.synced;
         any_moment = λ files before after left sized. subst (λ (now : ℕ → Option FileInfo). LeavesOnly g old.disk new (λ image. StandsFor all files before image ⊎ StandsFor all now after image))
             (fun_ext (files_same files sizes changes (says_of files before left)))
-            (c.any_moment files before after left (changes_as_sizes files sizes changes (says_of files before left) list given before after sized));
+            (c.any_moment files before after left (changes_as_sizes files sizes changes (says_of files before left) fresh list given before after sized));
         outside = c.outside;
       }
         where
@@ -141,30 +149,30 @@ module _ {D : Type 0} (g : Ghosts D) (old : PoolStore D) (ready : IsReadyPool g 
               (fun_ext (λ f. (left content (record { kept = λ k. inr refl })).facts f)) said
 
       -- and are refused only where those are.
-      pub refuses_sizes : (new : D) (list : List FilePage) (count : ℕ) (refusal : ResizeRefusal) → RefusesChanges g old new changes list count refusal → RefusesSizesOf all content sizes list count refusal
-      refuses_sizes new list count refusal r = record {
+      pub refuses_sizes : (new : D) (fresh list : List FilePage) (count : ℕ) (refusal : ResizeRefusal) → RefusesChanges g old new changes fresh list count refusal → RefusesSizesOf all content sizes fresh list count refusal
+      refuses_sizes new fresh list count refusal r = record {
         none = λ is. absurd (⊎_elim (λ device. cc) (⊎_elim (λ pages. cc) (λ memory. cc)) r.else);
         memory = λ is. has_head g old ready keeps;
-        pages = λ is may. r.pages is (are_brought list count may);
+        pages = λ is may. r.pages is (are_brought fresh list count may);
         read_only = λ is. absurd (⊎_elim (λ device. cc) (⊎_elim (λ pages. cc) (λ memory. cc)) r.else);
         homes = λ is. absurd (⊎_elim (λ device. cc) (⊎_elim (λ pages. cc) (λ memory. cc)) r.else);
       }
 
   -- So its files get sizes by changes,
-  pub resized_open : (new : D) (sizes : List FileSize) (changes : List Change) (list : List FilePage) (bytes : List PageBytes) (result : Result (Unit {0}) ResizeRefusal) → AreSizes (length old.directory.entries.items) sizes
-      → SaySizes (info_by old.directory) sizes changes → AreAllWritable (info_by old.directory) sizes list → ChangesOpenStore g old new changes list bytes result → ResizesOpenStore g old new sizes list bytes result
-  resized_open new sizes changes list bytes result asked says writable e = record {
+  pub resized_open : (new : D) (sizes : List FileSize) (changes : List Change) (fresh list : List FilePage) (bytes : List PageBytes) (result : Result (Unit {0}) ResizeRefusal) → AreSizes (length old.directory.entries.items) sizes
+      → SaySizes (info_by old.directory) sizes changes → AreAllWritable (info_by old.directory) sizes list → ChangesOpenStore g old new changes fresh list bytes result → ResizesOpenStore g old new sizes fresh list bytes result
+  resized_open new sizes changes fresh list bytes result asked says writable e = record {
     stays = e.stays;
-    resized = λ keeps store. on_ok_weaker result (resizes_store (e.stays.kept keeps) sizes changes says new list (length bytes) _ asked writable) (e.changed keeps store);
-    refused = λ keeps store. IfErr-weaker result _ _ (λ refusal r. refuses_sizes (e.stays.kept keeps) sizes changes says new list (length bytes) refusal r) e.refused;
+    resized = λ keeps store. on_ok_weaker result (resizes_store (e.stays.kept keeps) sizes changes says new fresh list (length bytes) _ asked writable) (e.changed keeps store);
+    refused = λ keeps store. IfErr-weaker result _ _ (λ refusal r. refuses_sizes (e.stays.kept keeps) sizes changes says new fresh list (length bytes) refusal r) e.refused;
     cause = IfErr-weaker result _ _ (λ refusal r. r.cause) e.refused;
   }
 
   -- or are refused, with nothing written.
-  pub unsized : (outcome : Result (Unit {0}) DiskFault) (sizes : List FileSize) (list : List FilePage) (bytes : List PageBytes) (refusal : ResizeRefusal)
+  pub unsized : (outcome : Result (Unit {0}) DiskFault) (sizes : List FileSize) (fresh list : List FilePage) (bytes : List PageBytes) (refusal : ResizeRefusal)
       → (g.keeps_model old.disk → (k : ℕ) → g.unsynced old.disk k → ⊥) → FreesSlots g (Pool old) (Pool old) outcome → (refusal ≡ Device → ⊥)
-      → (g.keeps_model old.disk → RefusesSizesOf all content sizes list (length bytes) refusal) → ResizesOpenStore g old old.disk sizes list bytes (Err refusal)
-  unsized outcome sizes list bytes refusal synced frees other refused = record {
+      → (g.keeps_model old.disk → RefusesSizesOf all content sizes fresh list (length bytes) refusal) → ResizesOpenStore g old old.disk sizes fresh list bytes (Err refusal)
+  unsized outcome sizes fresh list bytes refusal synced frees other refused = record {
     stays = stays_freed g old old outcome ready synced frees;
     resized = λ keeps store. tt;
     refused = λ keeps store. refused keeps;

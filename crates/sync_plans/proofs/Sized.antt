@@ -1,9 +1,9 @@
 -- Changes that say what sizes ask for make of files what those make, whatever their extents.
-use Rattle.sync_plans.proofs.Names.{ℕ, zero, suc, ◌+◌, ◌-◌, ◌==◌, ◌≡◌, Bool, true, false, List, [], ◌∷◌, Option, Some, None, if◌then◌else◌, refl, sym, ap, subst, ◌∙◌, arith, fun_ext}
-use Rattle.sync_plans.proofs.Names.{FileInfo, FilePage, Change, ChangesFiles, added_count, cut_page, file_page_count, files_after, new_page}
-use Rattle.std.specs.{Option.{option_map}, Prelude.{◌/◌, ◌++◌, nat_lt}}
+use Rattle.sync_plans.proofs.Names.{ℕ, zero, suc, ◌+◌, ◌<◌, ◌==◌, ◌≡◌, Bool, true, false, List, [], ◌∷◌, length, Option, Some, None, if◌then◌else◌, refl, sym, ap, subst, ◌∙◌, arith, fun_ext}
+use Rattle.sync_plans.proofs.Names.{FileInfo, FilePage, Change, ChangesFiles, IsNewPage, cut_page, file_page_count, files_after}
+use Rattle.std.specs.{Option.{option_map}, Prelude.{◌/◌, ◌++◌}}
 use Rattle.growth.specs.Changes.{change_of}
-use Rattle.pool_growth.specs.{Asked.{changed_pages, is_changed}, Files.{added, info_then}, Sizes.{bare, changes_to, files_sized, info_to, SaySizes, SizesFiles}, declared.sizes.FileSize.{FileSize}}
+use Rattle.pool_growth.specs.{Asked.{changed_pages, is_changed}, Files.{info_then}, Sizes.{bare, changes_to, files_sized, info_to, SaySizes, SizesFiles}, declared.sizes.FileSize.{FileSize}}
 use Rattle.pool_store.specs.Files.{info_of}
 
 -- changes of the same files, after which the same is fixed of them
@@ -41,28 +41,6 @@ files_alike files (c ∷ cs) (d ∷ ds) alike f =
     subst (λ n. info_then (if c.file == f then Some c else change_of cs f) (files f) ≡ info_then (if n == f then Some d else change_of ds f) (files f)) alike.0
     (picked (c.file == f) c d (change_of cs f) (change_of ds f) (files f) alike.1 (files_alike files cs ds alike.2 f))
 
-added_alike : (files : ℕ → Option FileInfo) (c d : Change) → c.file ≡ d.file → option_map info_of c.entry ≡ option_map info_of d.entry → added files c ≡ added files d
-added_alike files c d file info = ap (λ x. file_page_count x - file_page_count (files c.file)) info ∙ ap (λ f. file_page_count (option_map info_of d.entry) - file_page_count (files f)) file
-
-count_alike : (files : ℕ → Option FileInfo) (cs ds : List Change) → AreAlike cs ds → added_count files cs ≡ added_count files ds
-count_alike files [] [] alike = refl
-count_alike files [] (d ∷ ds) alike = absurd alike
-count_alike files (c ∷ cs) [] alike = absurd alike
-count_alike files (c ∷ cs) (d ∷ ds) alike = ap (λ n. n + added_count files cs) (added_alike files c d alike.0 alike.1) ∙ ap (λ n. added files d + n) (count_alike files cs ds alike.2)
-
--- new page i of a change of file f that brings so many, or of those behind it
-abbrev paged : (ℕ → Option FileInfo) → ℕ → ℕ → (ℕ → Option FilePage) → ℕ → Option FilePage
-paged files count f rest i = if nat_lt i count then Some (record { file = f; page = file_page_count (files f) + i }) else rest (i - count)
-
-page_alike : (files : ℕ → Option FileInfo) (cs ds : List Change) → AreAlike cs ds → (i : ℕ) → new_page files cs i ≡ new_page files ds i
-page_alike files [] [] alike i = refl
-page_alike files [] (d ∷ ds) alike i = absurd alike
-page_alike files (c ∷ cs) [] alike i = absurd alike
-page_alike files (c ∷ cs) (d ∷ ds) alike i =
-    ap (λ n. paged files n c.file (new_page files cs) i) (added_alike files c d alike.0 alike.1)
-    ∙ ap (λ f. paged files (added files d) f (new_page files cs) i) alike.0
-    ∙ ap (λ (rest : ℕ → Option FilePage). paged files (added files d) d.file rest i) (fun_ext (page_alike files cs ds alike.2))
-
 is_changed_alike : (cs ds : List Change) → AreAlike cs ds → (q : ℕ) → is_changed cs q ≡ is_changed ds q
 is_changed_alike [] [] alike q = refl
 is_changed_alike [] (d ∷ ds) alike q = absurd alike
@@ -76,17 +54,24 @@ changed_alike cs ds alike zero = refl
 changed_alike cs ds alike (suc n) = ap (λ (front : List ℕ). front ++ (if is_changed cs n then n ∷ [] else [])) (changed_alike cs ds alike n)
     ∙ ap (λ (b : Bool). changed_pages ds n ++ (if b then n ∷ [] else [])) (is_changed_alike cs ds alike n)
 
+-- the same pages are new
+new_alike : (files : ℕ → Option FileInfo) (cs ds : List Change) → AreAlike cs ds → (f k : ℕ) → IsNewPage files cs f k → IsNewPage files ds f k
+new_alike files cs ds alike f k new = (new.0, subst (λ o. k < file_page_count o) (files_alike files cs ds alike f) new.1)
+
+new_back : (files : ℕ → Option FileInfo) (cs ds : List Change) → AreAlike cs ds → (f k : ℕ) → IsNewPage files ds f k → IsNewPage files cs f k
+new_back files cs ds alike f k new = (new.0, subst (λ o. k < file_page_count o) (sym (files_alike files cs ds alike f)) new.1)
+
 -- of the bytes they leave the same
-same_bytes : (files : ℕ → Option FileInfo) (cs ds : List Change) → AreAlike cs ds → (list : List FilePage) (given : ℕ → List ℕ) (before after : ℕ → ℕ → List ℕ)
-    → ChangesFiles files ds list given before after → ChangesFiles files cs list given before after
-same_bytes files cs ds alike list given before after made =
+same_bytes : (files : ℕ → Option FileInfo) (cs ds : List Change) → AreAlike cs ds → (fresh list : List FilePage) (given : ℕ → List ℕ) (before after : ℕ → ℕ → List ℕ)
+    → ChangesFiles files ds fresh list given before after → ChangesFiles files cs fresh list given before after
+same_bytes files cs ds alike fresh list given before after made =
     let same = sym (fun_ext (files_alike files cs ds alike)) in
     record {
-      added = λ i p is. subst (λ (now : ℕ → Option FileInfo). after p.file p.page ≡ cut_page (now p.file) p.page (given i)) same (made.added i p (sym (page_alike files cs ds alike i) ∙ is));
-      listed = λ i p is. subst (λ (now : ℕ → Option FileInfo). after p.file p.page ≡ cut_page (now p.file) p.page (given (added_count files cs + i))) same
-          (subst (λ n. after p.file p.page ≡ cut_page (files_after files ds p.file) p.page (given (n + i))) (sym (count_alike files cs ds alike)) (made.listed i p is));
+      added = λ i p is. subst (λ (now : ℕ → Option FileInfo). after p.file p.page ≡ cut_page (now p.file) p.page (given i)) same (made.added i p is);
+      blank = λ f k new none. made.blank f k (new_alike files cs ds alike f k new) none;
+      listed = λ i p is. subst (λ (now : ℕ → Option FileInfo). after p.file p.page ≡ cut_page (now p.file) p.page (given (length fresh + i))) same (made.listed i p is);
       others = λ f k none unlisted. subst (λ (now : ℕ → Option FileInfo). after f k ≡ cut_page (now f) k (before f k)) same
-          (made.others f k (λ new. none (new.0, new.1, page_alike files cs ds alike new.0 ∙ new.2, new.3, new.4)) unlisted);
+          (made.others f k (λ new. none (new_back files cs ds alike f k new)) unlisted);
     }
 
 -- Changes that say so
@@ -98,15 +83,18 @@ module _ (files : ℕ → Option FileInfo) (sizes : List FileSize) (changes : Li
   pub files_same : (f : ℕ) → files_after files changes f ≡ files_sized files sizes f
   files_same = files_alike files changes (changes_to files sizes) alike
 
-  -- bring as many new pages,
-  pub count_same : added_count files changes ≡ added_count files (changes_to files sizes)
-  count_same = count_alike files changes (changes_to files sizes) alike
+  -- bring the same new pages,
+  pub new_same : (f k : ℕ) → IsNewPage files changes f k → IsNewPage files (changes_to files sizes) f k
+  new_same = new_alike files changes (changes_to files sizes) alike
+
+  pub new_said : (f k : ℕ) → IsNewPage files (changes_to files sizes) f k → IsNewPage files changes f k
+  new_said = new_back files changes (changes_to files sizes) alike
 
   -- change the same pages of a directory,
   pub changed_same : (d : ℕ) → changed_pages changes d ≡ changed_pages (changes_to files sizes) d
   changed_same = changed_alike changes (changes_to files sizes) alike
 
   -- and leave of the bytes what those do.
-  module _ (list : List FilePage) (given : ℕ → List ℕ) (before after : ℕ → ℕ → List ℕ) where
-    pub changes_as_sizes : SizesFiles files sizes list given before after → ChangesFiles files changes list given before after
-    changes_as_sizes = same_bytes files changes (changes_to files sizes) alike list given before after
+  module _ (fresh list : List FilePage) (given : ℕ → List ℕ) (before after : ℕ → ℕ → List ℕ) where
+    pub changes_as_sizes : SizesFiles files sizes fresh list given before after → ChangesFiles files changes fresh list given before after
+    changes_as_sizes = same_bytes files changes (changes_to files sizes) alike fresh list given before after

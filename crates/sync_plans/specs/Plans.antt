@@ -1,8 +1,9 @@
 -- A plan: calls to be made of a device, one after the other. What the device holds after some of them, and what a stop may
 -- leave of it. Call k of kind 1 writes row k to its sector, one of kind 2 syncs. One of kind 3 writes page `from` of those that
--- are lent to the eight sectors from its own on, and one of kind 4 what the eight sectors from `from` on of the image hold.
-use Rattle.std.specs.Prelude.{ℕ, zero, suc, min, ◌+◌, ◌-◌, ◌<◌, ◌≤◌, ◌≡◌, ◌⊎◌, Bool, false, leb, ltb, ◌&&◌, ◌||◌, ◌==◌, if◌then◌else◌, IsTrue, List, [], Option, Some, None, length, slice_get, slice_index_or}
-use Rattle.disk_model.specs.Sectors.{part_of}
+-- are lent to the eight sectors from its own on, one of kind 4 what the eight sectors from `from` on of the image hold, and one of kind 5 zeros to the sectors of
+-- `from` pages.
+use Rattle.std.specs.Prelude.{ℕ, zero, suc, min, ◌+◌, ◌-◌, ◌*◌, ◌<◌, ◌≤◌, ◌≡◌, ◌⊎◌, Bool, false, leb, ltb, ◌&&◌, ◌||◌, ◌==◌, if◌then◌else◌, IsTrue, List, [], Option, Some, None, length, replicate, slice_get, slice_index_or}
+use Rattle.disk_model.specs.Sectors.{part_of, sector_bytes}
 use Rattle.disk_model.specs.Stop.{Image, MayLeave}
 use Rattle.sync_plans.specs.declared.call.Call.{Call}
 
@@ -10,17 +11,22 @@ use Rattle.sync_plans.specs.declared.call.Call.{Call}
 abbrev pub row : List (List ℕ) → Image
 row sectors n = slice_index_or sectors n []
 
--- sector n is one of the eight from `first` on
-abbrev pub is_of_page : ℕ → ℕ → Bool
-is_of_page first n = leb first n && ltb n (first + 8)
+-- sector n is one of those of so many pages from `first` on
+abbrev pub is_of_pages : ℕ → ℕ → ℕ → Bool
+is_of_pages first pages n = leb first n && ltb n (first + 8 * pages)
+
+-- how many pages a call of kind 3, 4 or 5 writes
+abbrev pub pages_written : Call → ℕ
+pages_written call = if call.kind == 5 then call.from else 1
 
 abbrev pub writes_to : Option Call → ℕ → Bool
 writes_to None n = false
-writes_to (Some call) n = if call.kind == 1 then (n == call.sector) else (leb 3 call.kind && is_of_page call.sector n)
+writes_to (Some call) n = if call.kind == 1 then (n == call.sector) else (leb 3 call.kind && is_of_pages call.sector (pages_written call) n)
 
--- what a call of kind 3 or 4 writes to sector n
+-- what a call of kind 3, 4 or 5 writes to sector n
 abbrev pub page_bytes : (ℕ → List ℕ) → Image → Call → ℕ → List ℕ
-page_bytes pages first call n = if call.kind == 3 then part_of (pages call.from) (n - call.sector) else first (call.from + (n - call.sector))
+page_bytes pages first call n = if call.kind == 3 then part_of (pages call.from) (n - call.sector)
+    else (if call.kind == 4 then first (call.from + (n - call.sector)) else replicate sector_bytes 0)
 
 -- what call k writes to sector n, in a plan of these rows, with these pages lent, for a device that held `first`
 abbrev pub written_bytes : List (List ℕ) → (ℕ → List ℕ) → Image → ℕ → Option Call → ℕ → List ℕ
@@ -35,11 +41,11 @@ is_sync_call (Some call) = call.kind == 2
 abbrev pub room_of : List Call → List (List ℕ) → List Call → List (List ℕ) → ℕ
 room_of made made_rows calls rows = min (min (length made) (length made_rows)) (min (length calls) (length rows))
 
--- a write of one of so many sectors or of a page of them, or a sync
+-- a write of one of so many sectors or of pages of them, or a sync
 pub record IsCall (sectors : ℕ) (call : Call) : Type 0 where
-  pub kind : (1 ≤ call.kind) × (call.kind ≤ 4)
+  pub kind : (1 ≤ call.kind) × (call.kind ≤ 5)
   pub sector : call.kind ≡ 1 → call.sector < sectors
-  pub page : 3 ≤ call.kind → call.sector + 8 ≤ sectors
+  pub page : 3 ≤ call.kind → call.sector + 8 * pages_written call ≤ sectors
   pub copied : call.kind ≡ 4 → call.from + 8 ≤ sectors
 
 -- the first `used` calls are such

@@ -1,8 +1,8 @@
 -- What is asked of a plan as a device that lists its writes and syncs, and what it comes to.
-use Rattle.std.specs.Prelude.{ℕ, ◌+◌, ◌<◌, ◌≤◌, ◌≡◌, ◌⊎◌, true, false, List, Some, length, slice_get, Result, OnOk, OnErr}
+use Rattle.std.specs.Prelude.{ℕ, ◌+◌, ◌<◌, ◌≤◌, ◌≡◌, ◌⊎◌, true, false, List, Some, length, replicate, slice_get, Result, OnOk, OnErr}
 use Rattle.disk_model.specs.declared.sector_disk.DiskFault.{DiskFault}
-use Rattle.disk_model.specs.Sectors.{part_of}
-use Rattle.disk_model.specs.Stop.{HasCause, IsOfPage, ChangesOnly, ChangesPage, Elapses}
+use Rattle.disk_model.specs.Sectors.{part_of, sector_bytes}
+use Rattle.disk_model.specs.Stop.{HasCause, IsOfPage, IsOfPages, ChangesOnly, ChangesPage, ChangesPages, Elapses}
 use Rattle.sync_plans.specs.declared.call.Call.{Call}
 use Rattle.sync_plans.specs.declared.plan_disk.PlanDisk.{PlanDisk}
 use Rattle.sync_plans.specs.Plans.{row, IsCall, AreCalls, AreSources}
@@ -95,4 +95,14 @@ module _ {T : Type 0} where
     pub others : ChangesPage n (content_of old) (content_of new)
     -- calls write to these alone.
     pub puts : PutsCalls old new (IsOfPage n) result
+    pub open puts use *
+
+  -- Zeros are written to the sectors of so many pages from n on:
+  pub record PutsZeros (old new : PlanDisk) (n pages : ℕ) (result : Result T DiskFault) : Type 0 where
+    -- they hold them,
+    pub written : OnOk result ((k : ℕ) → IsOfPages n pages k → content_of new k ≡ replicate sector_bytes 0)
+    -- and all others what they held;
+    pub others : ChangesPages n pages (content_of old) (content_of new)
+    -- calls write to these alone.
+    pub puts : PutsCalls old new (IsOfPages n pages) result
     pub open puts use *

@@ -1,15 +1,15 @@
 //! A device that lists its writes and syncs, for the caller to carry out.
-ghost use Rattle.std.specs.Prelude.{◌≡◌, ◌≢◌, ◌<◌, ◌≤◌, ◌+◌, ◌^◌, ◌⊎◌, ℕ, length, min, true, false, Some, IfSome, IsTrue, slice_get};
+ghost use Rattle.std.specs.Prelude.{◌≡◌, ◌≢◌, ◌<◌, ◌≤◌, ◌+◌, ◌-◌, ◌*◌, ◌^◌, ◌⊎◌, ℕ, length, min, true, false, Some, IfSome, IsTrue, slice_get};
 ghost use Rattle.disk_model.specs.Asked.{times_named};
 ghost use Rattle.disk_model.specs.Sectors.{part_of};
 ghost use Rattle.sync_plans.specs.Pages.{lent_page};
-ghost use Rattle.sync_plans.specs.Plans.{row, writes_to, written_bytes, is_written, AreCalls, AreSources};
+ghost use Rattle.sync_plans.specs.Plans.{row, pages_written, writes_to, written_bytes, is_written, AreCalls, AreSources};
 ghost use Rattle.sync_plans.specs.Device.{NamesPage};
 
 use crate::call::Call;
 use crate::lent_pages::LentPages;
 use crate::scratch::Scratch;
-use disk_model::{Asked, Count, DiskFault, SECTOR_BYTES, SectorDisk, parts};
+use disk_model::{Asked, Count, DiskFault, SECTOR_BYTES, SectorDisk, WriteZeros, parts};
 
 const WRITE: u64 = 1;
 
@@ -18,6 +18,11 @@ const SYNC: u64 = 2;
 const LENT: u64 = 3;
 
 const COPY: u64 = 4;
+
+const ZERO: u64 = 5;
+
+/// What a call of zeros writes to a sector.
+const ZEROS: [u8; SECTOR_BYTES] = [0; SECTOR_BYTES];
 
 /// A device that holds `image` until the listed calls are made. Nothing is written to the image.
 #[derive(Drop)]
@@ -92,23 +97,33 @@ fn writes(call: Call, n: u64) -> bool
     if call.kind == WRITE {
         n == call.sector
     } else {
-        call.kind >= LENT && call.sector <= n && n - call.sector < 8
+        call.kind >= LENT && call.sector <= n && (n - call.sector) / 8 < pages_written(call)
     }
+}
+
+/// How many pages a call of kind 3, 4 or 5 writes.
+fn pages_written(call: Call) -> u64
+    ensures { result ≡ pages_written call }
+{
+    if call.kind == ZERO { call.from } else { 1 }
 }
 
 /// How many sectors a call writes that is no sync.
 fn written_sectors(call: Call) -> u64
     ensures one { call.kind ≡ 1 → result ≡ 1 }
-    ensures page { call.kind ≢ 1 → result ≡ 8 }
+    ensures pages { call.kind ≢ 1 → result ≡ min (8 * pages_written call) (2 ^ 64 - 1) }
 {
-    if call.kind == WRITE { 1 } else { 8 }
+    if call.kind == WRITE {
+        1
+    } else {
+        pages_written(call).saturating_mul(8)
+    }
 }
 
 /// Which sector of its page a call writes to sector `n`.
 fn place(call: Call, n: u64) -> usize
     requires here { writes_to (Some call) n ≡ true }
-    requires page { call.kind ≢ 1 }
-    ensures kind { 3 ≤ call.kind }
+    requires kind { (call.kind ≡ 3) ⊎ (call.kind ≡ 4) }
     ensures inside { result < 8 }
     ensures at { n ≡ call.sector + result }
 {
@@ -126,7 +141,7 @@ fn keep_row(to: &mut [u8; 512], call: Call, bytes: &[u8; 512])
 
 impl<'a> PlanDisk<'a> {
     ghost use Rattle.sync_plans.specs.PlanDisk.{pages_of, content_of};
-    ghost use Rattle.sync_plans.specs.Writing.{Begins, CopiesPlan, IsListable, AddsCall, PutsSector, PutsPage};
+    ghost use Rattle.sync_plans.specs.Writing.{Begins, CopiesPlan, IsListable, AddsCall, PutsSector, PutsPage, PutsZeros};
 
     pub(crate) fn new(
         image: &'a [[u8; 512]],
@@ -231,6 +246,25 @@ impl<'a> PlanDisk<'a> {
         }
     }
 
+    // A write of zeros to the sectors of so many pages.
+    fn put_zeros(&mut self, n: u64, pages: u64) -> Result<(), DiskFault>
+        requires room { n + 8 * pages ≤ length self.old.image.now }
+        requires fits { n + 8 * pages < 2 ^ 60 }
+        ensures { PutsZeros self.old self.new n pages result }
+    {
+        self.is_fresh = false;
+        self.lent.last.set(None);
+        let call = Call {
+            kind: ZERO,
+            sector: n,
+            from: pages,
+        };
+        match self.list(call, &ZEROS) {
+            Ok(()) => Ok(()),
+            Err(fault) => Err(fault),
+        }
+    }
+
     /// The untouched sectors, once this call is listed too.
     fn untouched_with(&self, call: Call) -> Span
         ensures low { self.now.untouched.low ≤ result.low }
@@ -326,11 +360,13 @@ impl<'a> PlanDisk<'a> {
             let rows = &*self.rows;
             return &rows[k];
         }
-        let i = place(call, n);
         if call.kind == LENT {
-            return &parts(self.lent.pages[call.from as usize].at)[i];
+            return &parts(self.lent.pages[call.from as usize].at)[place(call, n)];
         }
-        &self.image[call.from as usize + i]
+        if call.kind == COPY {
+            return &self.image[call.from as usize + place(call, n)];
+        }
+        &ZEROS
     }
 
     /// A call of the list.
@@ -338,7 +374,7 @@ impl<'a> PlanDisk<'a> {
         requires { k < self.now.used }
         ensures here { slice_get self.now.calls.now k ≡ Some result }
         ensures lent { result.kind ≡ 3 → result.from < length self.now.lent.pages.now }
-        ensures copied { 3 < result.kind → result.from + 8 ≤ length self.now.image.now }
+        ensures copied { result.kind ≡ 4 → result.from + 8 ≤ length self.now.image.now }
     {
         self.calls[k]
     }
@@ -437,5 +473,19 @@ impl SectorDisk for PlanDisk<'_> {
             from: 0,
         };
         self.list(call, &[0; SECTOR_BYTES])
+    }
+}
+
+impl WriteZeros for PlanDisk<'_> {
+    /// One call.
+    fn write_zeros(&mut self, n: u64, pages: u64) -> Result<(), DiskFault> {
+        self.asked.pages(n, pages);
+        match self.put_zeros(n, pages) {
+            Ok(()) => Ok(()),
+            Err(fault) => {
+                self.lost.pages(n, pages);
+                Err(fault)
+            }
+        }
     }
 }

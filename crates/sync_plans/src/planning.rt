@@ -15,7 +15,7 @@ use crate::call::Call;
 use crate::lent_pages::LentPages;
 use crate::plan_disk::PlanDisk;
 use crate::requests::{Refusal, commit, facts, open, read, tidy};
-use crate::resizing::{ResizeRefusal, resize};
+use crate::resizing::{ResizeRefusal, ResizedPages, resize};
 use crate::scratch::Scratch;
 use crate::updates::{PageUpdates, SizeUpdates};
 use std::alloc::Global;
@@ -195,7 +195,8 @@ pub fn file_facts(
 }
 
 /// Plans that files get other lengths, come or go, and pages of theirs become durable with that, all at once: of a store with a pool. Each file that a size names has
-/// its length from then on, or goes; the new pages come first among the bytes, in the order of the sizes, then those of the list, each with zeros past its file's end then.
+/// its length from then on, or goes; the new pages that are more than zeros come first among the bytes, then those of the other list, each with zeros past its file's end
+/// then. Every other new page becomes zeros, a row of homes by one call.
 /// Where fewer slots are free than it takes, all pages that stand in slots are brought home first, which takes 2 syncs more.
 ///
 /// # Errors
@@ -210,12 +211,13 @@ pub fn plan_resize(
     rows: &mut [[u8; 512]],
     updates: SizeUpdates<'_>,
 ) -> Result<usize, ResizeRefusal>
-    ensures resizes { IfOk result (λ used. PlansResizing image.now (room_of scratch.entry.calls.now scratch.entry.rows.now calls.old rows.old) updates.entry.sizes.now updates.entry.pages.now (length updates.entry.bytes.now) (lent_page updates.entry.bytes.now) calls.new rows.new used) }
+    ensures resizes { IfOk result (λ used. PlansResizing image.now (room_of scratch.entry.calls.now scratch.entry.rows.now calls.old rows.old) updates.entry.sizes.now updates.entry.fresh.now updates.entry.pages.now (length updates.entry.bytes.now) (lent_page updates.entry.bytes.now) calls.new rows.new used) }
     ensures no_room { IfErr result (λ refusal. refusal ≡ ResizeRefusal.Device → AreCalls (length image.now) calls.new (room_of scratch.entry.calls.now scratch.entry.rows.now calls.old rows.old)) }
-    ensures refused { IfErr result (RefusesSizesOf (length image.now) (row image.now) updates.entry.sizes.now updates.entry.pages.now (length updates.entry.bytes.now)) }
+    ensures refused { IfErr result (RefusesSizesOf (length image.now) (row image.now) updates.entry.sizes.now updates.entry.fresh.now updates.entry.pages.now (length updates.entry.bytes.now)) }
 {
     let SizeUpdates {
         sizes,
+        fresh,
         pages,
         bytes,
     } = updates;
@@ -225,6 +227,7 @@ pub fn plan_resize(
         last: &last,
     };
     let disk = begun(image, source, scratch, calls, rows);
+    let pages = ResizedPages { fresh, pages };
     let (disk, outcome) = resize(alloc, disk, sizes, pages, source);
     told(&disk, outcome, ResizeRefusal::Device, calls, rows)
 }

@@ -7,10 +7,10 @@ ghost use Rattle.pool_growth.specs.Asked.{AreFileChanges};
 ghost use Rattle.pool_store.specs.Store.{info_by, IsReadyPool};
 
 use crate::lent_pages::LentPages;
-use disk_model::SectorDisk;
+use disk_model::{SectorDisk, WriteZeros};
 use pool_growth::{
-    BadPages, BadSizes, ChangeRoom, FileChanges, FileSize, added_count, check_pages,
-    commit_changes, propose_changes,
+    BadPages, BadSizes, ChangeRoom, FileChanges, FileSize, check_pages, commit_changes,
+    propose_changes,
 };
 use pool_store::{Directory, OpenFault, PoolStore};
 use std::alloc::Global;
@@ -24,12 +24,19 @@ pub enum ResizeRefusal {
     NoPool,
     /// There was too little memory for what a store keeps there while it is open, or for the changes.
     Memory,
-    /// No commit takes these sizes with these pages, or they are not as many as the new pages and those of the list.
+    /// No commit takes these sizes with these pages, or there are not as many bytes as pages.
     BadPages,
     /// A file of these sizes or pages may only be read.
     ReadOnly,
     /// There are not as many free homes in a row as a file lacks, or it has as many extents as a file may have.
     NoHomes,
+}
+
+/// The pages that come with sizes: new ones that are more than zeros, and others that were pages before.
+#[derive(Clone, Copy)]
+pub(crate) struct ResizedPages<'a> {
+    pub fresh: &'a [FilePage],
+    pub pages: &'a [FilePage],
 }
 
 fn unopened(fault: OpenFault) -> ResizeRefusal
@@ -49,17 +56,17 @@ fn unopened(fault: OpenFault) -> ResizeRefusal
 
 /// Gives files other lengths, or makes or removes them, and makes pages of theirs durable with that, all at once: of a store with a pool. Where fewer slots are free
 /// than it takes, all pages are brought home first.
-pub(crate) fn resize<D: SectorDisk + Drop>(
+pub(crate) fn resize<D: WriteZeros + Drop>(
     alloc: Global,
     disk: D,
     sizes: &[FileSize],
-    pages: &[FilePage],
+    pages: ResizedPages<'_>,
     source: LentPages<'_>,
 ) -> (D, Result<(), ResizeRefusal>)
     requires { D.keeps_model disk → (k : ℕ) → D.unsynced disk k → ⊥ }
     ensures stays { StaysStore D.SectorDisk disk result.0 }
-    ensures resizes { D.keeps_model result.0 → OnOk result.1 (ResizesStore D.SectorDisk disk result.0 sizes.now pages.now (length source.entry.pages.now) (lent_page source.entry.pages.now)) }
-    ensures refused { IfErr result.1 (RefusesSizes D.SectorDisk disk result.0 sizes.now pages.now (length source.entry.pages.now)) }
+    ensures resizes { D.keeps_model result.0 → OnOk result.1 (ResizesStore D.SectorDisk disk result.0 sizes.now pages.entry.fresh.now pages.entry.pages.now (length source.entry.pages.now) (lent_page source.entry.pages.now)) }
+    ensures refused { IfErr result.1 (RefusesSizes D.SectorDisk disk result.0 sizes.now pages.entry.fresh.now pages.entry.pages.now (length source.entry.pages.now)) }
 {
     let mut store = match PoolStore::resume(alloc, disk) {
         Ok(store) => store,
@@ -70,25 +77,28 @@ pub(crate) fn resize<D: SectorDisk + Drop>(
 }
 
 /// Gives files of an open store other lengths, and makes pages durable with that.
-fn resize_store<D: SectorDisk>(
+fn resize_store<D: WriteZeros>(
     alloc: Global,
     store: &mut PoolStore<D>,
     sizes: &[FileSize],
-    pages: &[FilePage],
+    pages: ResizedPages<'_>,
     source: LentPages<'_>,
 ) -> Result<(), ResizeRefusal>
     requires ready { IsReadyPool D.SectorDisk store.old }
     requires synced { D.keeps_model store.old.disk → (k : ℕ) → D.unsynced store.old.disk k → ⊥ }
-    ensures { ResizesOpenStore D.SectorDisk store.old store.new.disk sizes.now pages.now source.entry.pages.now result }
+    ensures { ResizesOpenStore D.SectorDisk store.old store.new.disk sizes.now pages.entry.fresh.now pages.entry.pages.now source.entry.pages.now result }
 {
-    if has_read_only_size(&store.directory, sizes) || has_read_only_page(&store.directory, pages) {
+    if has_read_only_size(&store.directory, sizes)
+        || has_read_only_page(&store.directory, pages.pages)
+    {
         return Err(ResizeRefusal::ReadOnly);
     }
     match propose_changes(alloc, store, sizes) {
         Ok(changes) => {
             let changes = FileChanges {
                 changes: &changes,
-                pages,
+                fresh: pages.fresh,
+                pages: pages.pages,
             };
             change_store(alloc, store, changes, source)
         }
@@ -136,7 +146,7 @@ fn has_read_only_page(directory: &Directory, pages: &[FilePage]) -> bool
 }
 
 /// Makes changes and pages of an open store durable all at once.
-fn change_store<D: SectorDisk>(
+fn change_store<D: WriteZeros>(
     alloc: Global,
     store: &mut PoolStore<D>,
     asked: FileChanges<'_>,
@@ -145,10 +155,9 @@ fn change_store<D: SectorDisk>(
     requires ready { IsReadyPool D.SectorDisk store.old }
     requires synced { D.keeps_model store.old.disk → (k : ℕ) → D.unsynced store.old.disk k → ⊥ }
     requires changes { AreFileChanges store.old.journal.sizes.homes store.old.directory asked.changes.now }
-    ensures { ChangesOpenStore D.SectorDisk store.old store.new.disk asked.entry.changes.now asked.entry.pages.now source.entry.pages.now result }
+    ensures { ChangesOpenStore D.SectorDisk store.old store.new.disk asked.entry.changes.now asked.entry.fresh.now asked.entry.pages.now source.entry.pages.now result }
 {
-    let added = added_count(&store.directory, asked.changes);
-    if !is_sum(source.pages.len(), added, asked.pages.len()) {
+    if !is_sum(source.pages.len(), asked.fresh.len(), asked.pages.len()) {
         return Err(ResizeRefusal::BadPages);
     }
     let sizes = store.journal.sizes();
@@ -177,7 +186,7 @@ fn make_slots_free<D: SectorDisk>(
 ) -> Result<(), ResizeRefusal>
     requires ready { IsReadyPool D.SectorDisk store.old }
     requires changes { AreFileChanges store.old.journal.sizes.homes store.old.directory asked.changes.now }
-    ensures { MakesSlotsFree D.SectorDisk store.old store.new asked.entry.changes.now asked.entry.pages.now result }
+    ensures { MakesSlotsFree D.SectorDisk store.old store.new asked.entry.changes.now asked.entry.fresh.now asked.entry.pages.now result }
 {
     match check_pages(store, asked) {
         Ok(()) => return Ok(()),

@@ -11,10 +11,11 @@ pub struct PageUpdates<'a> {
     pub bytes: &'a [PageBytes<'a>],
 }
 
-/// Sizes that files get, with pages of theirs: first the new pages of each, in the order of the sizes, and then those of the list become the bytes at `bytes`.
+/// Sizes that files get, with pages of theirs: first the new pages `fresh`, and then `pages` become the bytes at `bytes`. Each other new page becomes zeros.
 #[derive(Clone, Copy)]
 pub struct SizeUpdates<'a> {
     pub sizes: &'a [FileSize],
+    pub fresh: &'a [FilePage],
     pub pages: &'a [FilePage],
     pub bytes: &'a [PageBytes<'a>],
 }

@@ -18,3 +18,6 @@ returns-in-Err-clause-any_moment c = λ files before after stands changes left s
 
 pub returns-in-Err-clause-layout : goal.returns-in-Err-clause-layout
 returns-in-Err-clause-layout c = λ is. c.in-Err.ensures.refused.layout (c.number.ensures.layout is)
+
+pub returns-in-Err-clause-room : goal.returns-in-Err-clause-room
+returns-in-Err-clause-room c = λ is. c.in-Err.ensures.no_room (c.number.ensures.room is)

@@ -16,13 +16,14 @@ returns-clause-resizes c = IfOk-weaker c.told.result _ _
     let stays = c.resize-disk.ensures.stays in
     let copies = c.told.ensures.copies in
     let sizes = c.args.updates.sizes.now in
+    let fresh = c.args.updates.fresh.now in
     let list = c.args.updates.pages.now in
     let all = IfOk-at_ok _ made.1 (c.resize-disk.ensures.resizes tt) in
     rw made.0 (record {
       store = as_given begins IsStore all.store;
       pool = as_given begins (λ sectors image. is_pool image ≡ true) all.pool;
       writable = as_given begins (λ sectors image. AreAllWritable (file_info sectors image) sizes list) all.writable;
-      resizable = as_given begins (λ sectors image. AreResizable sectors image sizes list (length c.args.updates.bytes.now)) all.resizable;
+      resizable = as_given begins (λ sectors image. AreResizable sectors image sizes fresh list (length c.args.updates.bytes.now)) all.resizable;
       plan = plan begins stays copies all.store all.synced;
       any_moment = λ files before after stands sized.
           at_stop begins stays copies all.store (λ sectors. StandsForSized sectors sizes files before after) (all.any_moment files before after (stands_now begins files before stands) sized);
@@ -38,6 +39,6 @@ pub returns-clause-refused : goal.returns-clause-refused
 returns-clause-refused c = IfErr-weaker c.told.result _ _
     (λ refusal. ⊎_elim
     (λ full. record { none = λ is. cc; memory = λ is. cc; pages = λ is. cc; read_only = λ is. cc; homes = λ is. cc })
-    (λ same. as_given c.begun-disk.ensures (λ sectors image. RefusesSizesOf sectors image c.args.updates.sizes.now c.args.updates.pages.now (length c.args.updates.bytes.now) refusal)
+    (λ same. as_given c.begun-disk.ensures (λ sectors image. RefusesSizesOf sectors image c.args.updates.sizes.now c.args.updates.fresh.now c.args.updates.pages.now (length c.args.updates.bytes.now) refusal)
     (IfErr-at_err _ same (IfErr-weaker c.resize-disk.result.1 _ _ (λ r refused. refused.image tt) c.resize-disk.ensures.refused))))
     c.told.ensures.refused

@@ -9,6 +9,7 @@ returns-in-Ok g c = record {
   directory = refl;
   sizes = refl;
   ready = c.requires.ready;
+  are_new = c.in-Ok.ensures.new;
   good = c.in-Ok.ensures.good;
   rising = c.in-Ok.ensures.rising;
   refused = λ count. tt;
@@ -21,12 +22,13 @@ returns-in-Err g c = record {
   directory = refl;
   sizes = refl;
   ready = tt;
+  are_new = tt;
   good = tt;
   rising = tt;
   refused = λ count. record {
     cause = λ is. cc;
     pages = λ is brought. absurd
-        (let short = (refused_pages c.args.store.now c.args.asked.changes.now c.args.asked.pages.now count c.in-Err.fault brought c.in-Err.ensures.refused).0 in
+        (let short = (refused_pages c.args.store.now c.args.asked.changes.now c.args.asked.fresh.now c.args.asked.pages.now count c.in-Err.fault brought c.in-Err.ensures.refused).0 in
         false≢true (sym (rw short at c.if-ne.ensures)));
     else = inr (inl refl);
   };
@@ -40,6 +42,7 @@ returns-in-Err-tidy g c = record {
   directory = c.tidy.ensures.files;
   sizes = c.tidy.ensures.sizes;
   ready = tt;
+  are_new = tt;
   good = tt;
   rising = tt;
   refused = λ count. record { cause = λ is. c.in-Err-tidy.ensures.cause.failed refl; pages = λ is. cc; else = inl refl };
@@ -52,6 +55,7 @@ returns-in-Ok-check_pages g c = record {
   directory = c.tidy.ensures.files;
   sizes = c.tidy.ensures.sizes;
   ready = c.in-Ok-tidy.ensures.ready;
+  are_new = c.in-Ok-check_pages.ensures.new;
   good = c.in-Ok-check_pages.ensures.good;
   rising = c.in-Ok-check_pages.ensures.rising;
   refused = λ count. tt;
@@ -64,11 +68,12 @@ returns-in-Err-check_pages g c = record {
   directory = c.tidy.ensures.files;
   sizes = c.tidy.ensures.sizes;
   ready = tt;
+  are_new = tt;
   good = tt;
   rising = tt;
   refused = λ count. record {
     cause = λ is. cc;
-    pages = λ is brought. refused_tidied c.args.store.now c.tidy.new.self c.args.asked.changes.now c.args.asked.pages.now count c.in-Err-check_pages.field-0 c.tidy.ensures.files c.tidy.ensures.sizes
+    pages = λ is brought. refused_tidied c.args.store.now c.tidy.new.self c.args.asked.changes.now c.args.asked.fresh.now c.args.asked.pages.now count c.in-Err-check_pages.field-0 c.tidy.ensures.files c.tidy.ensures.sizes
         c.in-Ok-tidy.ensures.room brought c.in-Err-check_pages.ensures.refused;
     else = inr (inl refl);
   };

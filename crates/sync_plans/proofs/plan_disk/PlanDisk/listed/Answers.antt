@@ -8,8 +8,7 @@ returns-clause-lent c = λ three.
     is_lent s.lent.pages.now _ (s.sources.lent c.args.k _ c.requires (slice_get-get_or s.calls.now c.args.k (record { kind = 0; sector = 0; from = 0 }) inside) three)
 
 pub returns-clause-copied : goal.returns-clause-copied
-returns-clause-copied c = λ more.
+returns-clause-copied c = λ four.
     let s = c.args.self.now in
     let inside : c.args.k < length s.calls.now = omega (arith, c.requires, s.within, s.long) in
-    let is = s.all c.args.k _ c.requires (slice_get-get_or s.calls.now c.args.k (record { kind = 0; sector = 0; from = 0 }) inside) in
-    is.copied (let most = is.kind.1 in omega (arith, most, more))
+    (s.all c.args.k _ c.requires (slice_get-get_or s.calls.now c.args.k (record { kind = 0; sector = 0; from = 0 }) inside)).copied four

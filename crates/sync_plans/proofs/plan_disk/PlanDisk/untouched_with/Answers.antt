@@ -10,5 +10,5 @@ returns-clause-written c = λ n low high.
     ⊎_elim (not_written c.args.call n)
     (λ behind. not_written_behind c.args.call n
     (λ one. let long = c.written_sectors.ensures.one one in omega (arith, behind, high, long, end, below, bounded))
-    (λ page. let long = c.written_sectors.ensures.page page in omega (arith, behind, high, long, end, below, bounded)))
+    (λ paged. let long = c.written_sectors.ensures.pages paged in omega (arith, behind, high, long, end, below, bounded)))
     (c.without.ensures.out n low high)
