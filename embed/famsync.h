@@ -31,9 +31,10 @@ struct famsync_handle { uint32_t state; };
      FAMSYNC_SYNC: sync;
      FAMSYNC_LENT: write page `from` of those that famsync_commit was given to the eight sectors from `sector` on;
      FAMSYNC_COPY: write to them what the eight sectors from `from` on of the image hold. No call of the plan before this one
-     writes there, so the image as it was lent and the file have the same bytes.
+     writes there, so the image as it was lent and the file have the same bytes;
+     FAMSYNC_ZERO: write zeros to the sectors of `from` pages, eight each, from `sector` on.
    The row of a call of another kind than FAMSYNC_WRITE is not written to. */
-enum { FAMSYNC_WRITE = 1, FAMSYNC_SYNC = 2, FAMSYNC_LENT = 3, FAMSYNC_COPY = 4 };
+enum { FAMSYNC_WRITE = 1, FAMSYNC_SYNC = 2, FAMSYNC_LENT = 3, FAMSYNC_COPY = 4, FAMSYNC_ZERO = 5 };
 struct famsync_call { uint64_t kind, sector, from; };
 
 /* Page `page`, of 4,096 bytes, of file `file`. */
@@ -63,18 +64,19 @@ uint32_t famsync_commit(struct famsync_handle *handle, const void *image, size_t
                         const struct famsync_page *pages, size_t page_count, const struct famsync_bytes *bytes,
                         size_t byte_count);
 /* A commit after which files of an image of layout 4 have other lengths. `sizes` rise by file; a file that is there then, and was not before, comes into being.
-   New pages are those behind the last one that their file has before, up to the last one that it has then. `pages` are others, which their files have before
-   and then, and rise by file and page; where a file gets longer whose last page is not full, that one has to be among them. `bytes` are first those of the
-   new pages, file by file in the order of `sizes`, and then those of `pages`, and no others; FAMSYNC_LENT names a page by its number among all of these. Each
-   becomes zeros past its file's end then. FAMSYNC_BAD_PAGES too where `pages`, and one page for each 16 files of which one is in `sizes`, are more than
-   the pool has slots; new pages need none. Beside the room of a commit there have to be 8 calls and rows for each new page, mostly one of the calls is
-   used. A file that lacks homes gets one more extent, of as many as it has, 64 at least, or of just those that it lacks. New pages are durable
-   before a file has them, for which a plan may take one sync more than a commit. */
+   New pages are those behind the last one that their file has before, up to the last one that it has then. `fresh` are those of them that are more than zeros,
+   `pages` others, which their files have before and then; both rise by file and page; where a file gets longer whose last page is not full, that one has to be among
+   `pages`. `bytes` are first those of `fresh` and then those of `pages`, and no others; FAMSYNC_LENT names a page by its number among all of these. Each becomes
+   zeros past its file's end then, and each other new page zeros, a row of homes by one call. FAMSYNC_BAD_PAGES too where `pages`, and one page for each 16 files of
+   which one is in `sizes`, are more than the pool has slots; new pages need none. Beside the room of a commit there have to be 8 calls and rows for each of `fresh`,
+   mostly one of the calls is used, and a call for each extent that has new pages. A file that lacks homes gets one more extent, of as many as it has, 64 at least, or of
+   just those that it lacks. Of `fresh` 128 take slots, where these are free, as `pages` do; where they are more, and where there are new pages beside them, new pages are
+   durable before a file has them, for which a plan takes one sync more than a commit. */
 uint32_t famsync_resize(struct famsync_handle *handle, const void *image, size_t sectors, struct famsync_call *scratch_calls,
                         size_t scratch_calls_room, void *scratch_rows, size_t scratch_rows_room, size_t *used,
                         struct famsync_call *calls, size_t calls_room, void *rows, size_t rows_room,
-                        const struct famsync_size *sizes, size_t size_count, const struct famsync_page *pages, size_t page_count,
-                        const struct famsync_bytes *bytes, size_t byte_count);
+                        const struct famsync_size *sizes, size_t size_count, const struct famsync_page *fresh, size_t fresh_count,
+                        const struct famsync_page *pages, size_t page_count, const struct famsync_bytes *bytes, size_t byte_count);
 uint32_t famsync_done(struct famsync_handle *handle);
 void famsync_failed(struct famsync_handle *handle);
 

@@ -257,8 +257,9 @@ int kefs_length(kefs_image *image, unsigned file, size_t *length);
    behind the shorter length. An image that has no room for the file gets a longer host file, sparse, and keeps it.
 
    A commit that takes a length takes all *new* pages of the file, those behind the last one that is durable, whatever the ranges. They may be
-   any number: slots are not needed for them, and without these it takes a sync more. (Each is written, zeros too, and takes some 64 bytes of memory
-   while the commit lasts. So a file that is to be long and mostly zeros is better made as long, with KEFS_FILE_SPARSE.) Of the other pages it takes
+   any number: slots are not needed for them, and without these it takes a sync more. (Over 128 of them are written only where they are more than zeros. The
+   rest becomes a hole of the host file, takes neither time nor memory nor room, and gets that as later commits need it; where the file system has no holes, zeros are
+   written over bytes that are there.) Of the other pages it takes
    the dirty ones of its ranges; and the last one, where that is not full and the file gets longer, as it is durable if no range has it; and of a
    file that is not mapped those that were cut off and are zeros now. kefs_count_dirty counts all of these. kefs_commit_start of a length makes it durable before it
    returns, after all that was started, and may have any result of kefs_commit. kefs_rollback of all, or of such a range, takes the length back,
@@ -332,7 +333,7 @@ struct kefs_range { const void *at; size_t length; };
    signal, and of one range or all, pages that are as they are durable are not counted here, though kefs_count_dirty counts them. Nor are new pages; but
    one page is for each 16 files of which one has another length. EFBIG: as of kefs_resize, and nothing was done.
    KEFS_READ_ONLY: opened with KEFS_RDONLY or KEFS_SNAPSHOT. EINVAL: `ranges` is NULL and `count` is not 0. ENOMEM: nothing was done.
-   ENOSPC, EDQUOT: there is no room on the device, where a file is sparse mostly; nothing was done, the pages are dirty
+   ENOSPC, EDQUOT: there is no room on the device, where a file is sparse or has grown mostly; nothing was done, the pages are dirty
    still, and the image goes on. KEFS_NOT_IMAGE, KEFS_BAD_JOURNAL: another program has written over the host file; nothing was
    done.
    KEFS_DEVICE: a device call failed, and the commit is durable, whole, or it is not: kefs_recover says which, and so

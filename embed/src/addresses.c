@@ -90,12 +90,18 @@ static void set_pages(struct mapping *mapping, size_t pages) { __atomic_store_n(
 static void set_late(struct mapping *mapping, size_t late) { __atomic_store_n(&mapping->late, late, __ATOMIC_SEQ_CST); }
 
 /* What is read of a page from then on is read after its mark is set: a store that kefs_mark_dirty names meanwhile is seen, or the mark that it sets stays. */
-void set_marks(const struct span *span, unsigned char mark) {
+static void set_marks(const struct span *span, unsigned char mark) {
   struct mapping *mapping = span->mapping;
   for (size_t k = span->first; k < span->end; k++) {
     __atomic_exchange_n(&mapping->marks[k], mark, __ATOMIC_SEQ_CST);
     if (mark != 0) set_area(mapping, k, 1);
   }
+}
+
+/* They are looked for: most of many new pages have none. */
+void clear_marks(const struct span *span) {
+  for (size_t k = next_marked(span->mapping, span->first, span->end); k < span->end; k = next_marked(span->mapping, k + 1, span->end))
+    __atomic_exchange_n(&span->mapping->marks[k], 0, __ATOMIC_SEQ_CST);
 }
 
 /* Memory that could not be had whole goes again. */
@@ -105,20 +111,28 @@ static int end_putting(const struct span *span, int number) {
   return number;
 }
 
+/* Of pages that the file has durably, and that were cut off, it is a change that they are zeros. */
 int lengthen_mapping(struct mapping *mapping, size_t pages) {
-  struct span more = {mapping, mapping->pages, pages};
+  struct span more = {mapping, mapping->pages, pages}, known = more;
+  size_t durable = durable_pages(mapping->image, file_number(mapping));
   int number = put_memory(&more);
-  if (number == KEFS_OK) number = watch_stores(&more);
-  set_marks(&more, number == KEFS_OK ? DIRTY : 0);
+  if (number == KEFS_OK) number = watch_new(&more);
+  if (known.end > durable) known.end = durable;
+  if (number == KEFS_OK) set_marks(&known, DIRTY);
   return end_putting(&more, number);
 }
 
-/* The stores of this call itself come before any are noted. */
+/* The stores of this call itself come before any are noted. What is zeros takes no memory. */
 int restore_mapping(struct mapping *mapping, size_t pages) {
+  static const unsigned char zeros[PAGE];
+  unsigned char page[PAGE];
   struct span more = {mapping, mapping->pages, pages};
   int number = put_memory(&more);
-  for (size_t k = more.first; k < more.end && number == KEFS_OK; k++) copy_committed(mapping, k, page_at(mapping, k));
-  if (number == KEFS_OK) number = watch_stores(&more);
+  for (size_t k = more.first; k < more.end && number == KEFS_OK; k++) {
+    copy_committed(mapping, k, page);
+    if (memcmp(page, zeros, PAGE) != 0) memcpy(page_at(mapping, k), page, PAGE);
+  }
+  if (number == KEFS_OK) number = watch_new(&more);
   if (number == KEFS_OK) number = seal(&more);
   return end_putting(&more, number);
 }
@@ -130,7 +144,8 @@ int shorten_mapping(struct mapping *mapping, size_t pages) {
   set_pages(mapping, pages);
   if (late > pages) set_late(mapping, pages);
   int number = take_memory(&less);
-  if (number == KEFS_OK) set_marks(&less, 0);
-  else set_pages(mapping, less.end), set_late(mapping, late);
-  return number;
+  if (number != KEFS_OK) return set_pages(mapping, less.end), set_late(mapping, late), number;
+  clear_marks(&less);
+  if (pages <= mapping->bare) mapping->bare = SIZE_MAX;
+  return KEFS_OK;
 }

@@ -9,16 +9,24 @@
 enum { CHUNK = 256, ROUNDS = 3 }; /* homes that are copied in one turn, and rounds over all that is late */
 
 /* The copy has layout 4. It has the homes of one of that layout, and those of an older one behind its directory, by so many later: `homes` in all, with room
-   on the device from the first where the image `is_whole`. */
+   on the device from the first where the image `is_whole`. A bit says of each home of the image whether it is to be copied yet, and whether the copy has got bytes of it. */
 struct backup {
   struct kefs_image *image;
   struct new_file file;
   struct layout layout;
   uint32_t shift;
-  unsigned char *late, *chunk;
+  unsigned char *late, *copied, *chunk;
   uint64_t homes;
   int is_whole;
 };
+
+/* Sets the bits of homes up to `end`, or clears them: eight at once where it can. */
+static void put_bits(unsigned char *bits, uint64_t first, uint64_t end, int is_set) {
+  while (first < end) {
+    if (first % 8 == 0 && end - first >= 8) bits[first / 8] = is_set ? 0xff : 0, first += 8;
+    else is_set ? set_bit(bits, first) : clear_bit(bits, first), first++;
+  }
+}
 
 /* The first homes are the directory. */
 static void note_sizes(struct kefs_image *image) {
@@ -26,8 +34,7 @@ static void note_sizes(struct kefs_image *image) {
   struct new_homes it = {.image = image};
   struct extent homes;
   for (size_t i = 0; i < resizing->count; i++) set_bit(image->late, resizing->sizes[i].file / PAGE_ENTRIES);
-  while (next_new_homes(&it, &homes))
-    for (uint32_t i = 0; i < homes.count; i++) set_bit(image->late, (size_t)homes.first + i);
+  while (next_new_homes(&it, &homes)) put_bits(image->late, homes.first, (uint64_t)homes.first + homes.count, 1);
 }
 
 void note_homes(struct kefs_image *image) {
@@ -47,12 +54,22 @@ static void find_used(struct kefs_image *image) {
   for (size_t i = 0; i < places->count; i++) set_bit(image->late, places->list[i].home);
 }
 
-/* The homes from `first` on that are late, and follow each other: how many, at most a chunk. */
+/* The first home from one on whose bit is set, or `end`. */
+static uint64_t next_bit(const unsigned char *bits, uint64_t home, uint64_t end) {
+  while (home < end && !bit_of(bits, home)) home += home % 8 == 0 && bits[home / 8] == 0 ? 8 : 1;
+  return home < end ? home : end;
+}
+
+/* The homes from `first` on that are late, and follow each other: how many, at most a chunk. What is a hole in both files, as most of a new page may be, is late no
+   more. */
 static size_t late_homes(const struct backup *backup, uint64_t *first) {
-  uint64_t homes = backup->image->stat.pages, end;
-  while (*first < homes && !bit_of(backup->late, *first)) *first += *first % 8 == 0 && backup->late[*first / 8] == 0 ? 8 : 1;
-  if (*first >= homes) return 0;
-  for (end = *first; end < homes && end - *first < CHUNK && bit_of(backup->late, end);) end++;
+  uint64_t homes = backup->image->stat.pages, end = *first;
+  do {
+    put_bits(backup->late, *first, end, 0);
+    *first = next_bit(backup->late, end, homes);
+    end = *first < homes ? next_bit(backup->copied, *first, *first + count_empty(backup->image, (uint32_t)*first, homes - *first)) : *first;
+  } while (end > *first);
+  while (end < homes && end - *first < CHUNK && bit_of(backup->late, end)) end++;
   return (size_t)(end - *first);
 }
 
@@ -67,20 +84,22 @@ static int read_homes(struct backup *backup, uint64_t first, size_t count) {
 
 static int is_zero(const unsigned char *bytes) { return bytes[0] == 0 && memcmp(bytes, bytes + 1, PAGE - 1) == 0; }
 
-/* In the first round the file is all zeros yet. */
-static int write_homes(struct backup *backup, uint64_t first, size_t count, int round) {
+/* Zeros are written where the copy has got other bytes. */
+static int write_homes(struct backup *backup, uint64_t first, size_t count) {
   int number = KEFS_OK;
   off_t at = home_offset(&backup->layout, (uint32_t)first + backup->shift);
   for (size_t i = 0, end; i < count && number == KEFS_OK; i = end) {
-    int skipped = round == 0 && is_zero(backup->chunk + i * PAGE);
-    for (end = i + 1; end < count && !skipped && !(round == 0 && is_zero(backup->chunk + end * PAGE));) end++;
-    if (!skipped) number = write_all(backup->file.fd, backup->chunk + i * PAGE, (end - i) * PAGE, at + (off_t)(PAGE * i));
+    int are_zeros = is_zero(backup->chunk + i * PAGE);
+    for (end = i + 1; end < count && is_zero(backup->chunk + end * PAGE) == are_zeros;) end++;
+    if (are_zeros && next_bit(backup->copied, first + i, first + end) == first + end) continue;
+    number = write_all(backup->file.fd, backup->chunk + i * PAGE, (end - i) * PAGE, at + (off_t)(PAGE * i));
+    put_bits(backup->copied, first + i, first + end, 1);
   }
   return number;
 }
 
 /* Copies what is late, a chunk a turn. */
-static int copy_late(struct backup *backup, int round) {
+static int copy_late(struct backup *backup) {
   uint64_t first = 0;
   for (;;) {
     int result = enter(backup->image);
@@ -88,7 +107,7 @@ static int copy_late(struct backup *backup, int round) {
     size_t count = late_homes(backup, &first);
     leave(backup->image, count == 0 ? KEFS_OK : read_homes(backup, first, count));
     if (count == 0) return KEFS_OK;
-    int number = write_homes(backup, first, count, round);
+    int number = write_homes(backup, first, count);
     if (number != KEFS_OK) return number;
     first += count;
   }
@@ -117,7 +136,7 @@ static int copy_last(struct backup *backup) {
   int number = set_copy_length(backup);
   for (size_t count; number == KEFS_OK && (count = late_homes(backup, &first)) > 0; first += count) {
     read_homes(backup, first, count);
-    number = write_homes(backup, first, count, ROUNDS);
+    number = write_homes(backup, first, count);
   }
   if (number == KEFS_OK) number = write_older_directory(backup);
   return leave(backup->image, number);
@@ -130,7 +149,7 @@ static int take_rooms_of(const struct backup *backup) {
 static int fill_file(struct backup *backup) {
   int result = set_copy_length(backup);
   if (result == KEFS_OK) result = take_rooms_of(backup);
-  for (int round = 0; round < ROUNDS && result == KEFS_OK; round++) result = copy_late(backup, round);
+  for (int round = 0; round < ROUNDS && result == KEFS_OK; round++) result = copy_late(backup);
   if (result == KEFS_OK && fdatasync(backup->file.fd) != 0) result = errno; /* so that the last turn is short */
   if (result == KEFS_OK) result = copy_last(backup);
   if (result == KEFS_OK) result = finish_image(backup->file.fd, &backup->layout);
@@ -160,14 +179,14 @@ static int back_up(struct kefs_image *image, const char *path, unsigned permissi
   struct layout layout = is_older ? pool_layout(POOL_BLOCKS, DIRECTORY_PAGES) : image->layout;
   size_t bits = bits_bytes(image);
   struct backup backup = {.image = image, .file = {path, NULL, -1}, .layout = layout, .shift = is_older ? DIRECTORY_PAGES : 0,
-                          .late = new_memory(bits), .chunk = malloc((size_t)CHUNK * PAGE)};
-  int result = backup.late == NULL || backup.chunk == NULL ? ENOMEM : KEFS_OK;
+                          .late = new_memory(bits), .copied = new_memory(bits), .chunk = malloc((size_t)CHUNK * PAGE)};
+  int result = backup.late == NULL || backup.copied == NULL || backup.chunk == NULL ? ENOMEM : KEFS_OK;
   if (result == KEFS_OK) result = begin_file(&backup.file, path, permissions);
   if (result == KEFS_OK) result = watch(&backup);
   if (result == KEFS_OK) result = fill_file(&backup);
   watch_no_more(image);
   end_file(&backup.file);
-  drop_memory(backup.late, bits);
+  drop_memory(backup.late, bits), drop_memory(backup.copied, bits);
   free(backup.chunk);
   return result;
 }

@@ -82,8 +82,7 @@ static size_t area_end(size_t k, size_t end) {
 
 static int is_clean(const struct mapping *mapping, size_t k) { return __atomic_load_n(&mapping->areas[k / AREA], __ATOMIC_SEQ_CST) == 0; }
 
-/* The first page from `k` on whose mark is not 0, in an area that is not clean, or `end`. */
-static size_t next_marked(const struct mapping *mapping, size_t k, size_t end) {
+size_t next_marked(const struct mapping *mapping, size_t k, size_t end) {
   while (k < end) {
     size_t stop = area_end(k, end), found = is_clean(mapping, k) ? stop : next_mark(mapping, k, stop);
     if (found < stop) return found;

@@ -61,6 +61,7 @@ struct mapping {
   struct kefs_image *image;
   unsigned char *at; /* NULL: the file is not mapped */
   size_t pages, kept; /* that it has now, and for how many there are addresses */
+  size_t bare;        /* pages from this one on may not be watched as long as nobody has touched them (trackers.c) */
   size_t late;        /* pages in front that are read when they are first touched. All others were read, or began as zeros */
   unsigned char *marks; /* one a page, changed by atomic operations alone; */
   unsigned char *areas; /* and behind them one of each AREA pages: 0 where the mark of none of them is DIRTY */
@@ -112,10 +113,12 @@ struct resizing {
   struct famsync_size *sizes;     /* room for one of each file */
   size_t count, added, directory; /* sizes; new pages of their files; and pages of the directory that change */
   int has_names;                  /* the pages of the names that have changed go with it */
-  struct taken lent;              /* the pages that are taken, and the bytes of the new ones with those of these behind them */
+  struct famsync_page *fresh;     /* the new pages that are listed, */
+  size_t listed;                  /* so many. The others become zeros */
+  struct taken lent;              /* the pages that are taken, and the bytes of those that are listed with those of these behind them */
   unsigned char *edges;           /* room for pages of edges, */
   size_t edge_room, edge_count;   /* for so many, and so many are used */
-  size_t room;                    /* how many new pages there is room for, in these bytes and in plans. Other commits find it there */
+  size_t room, planned_room;      /* how many new pages there is room for, in these lists and in plans. Other commits find it there */
 };
 
 /* What stood in the place of the image's bytes and bits before its host file got longer (growing.c). Signal handlers may still read it. */
@@ -170,6 +173,7 @@ struct kefs_image {
   struct former *former;
   struct layout layout;
   unsigned char *roomless; /* a bit for each eight sectors that may have no room on the device yet, or NULL: all have */
+  int way_of_zeros;        /* how bytes of the host file are made zeros (device.c) */
   struct famsync_handle handle;
   struct plan scratch, plan;
   struct heap heap;
@@ -293,6 +297,8 @@ uint32_t journal_home(const struct kefs_image *image, uint32_t i);
 void copy_durable_page(struct kefs_image *image, uint32_t home, unsigned char *to);
 /* Page `k` of a file as it is durable, with zeros past the end that it has so. The file has such a page. */
 void copy_durable(struct kefs_image *image, unsigned f, size_t k, unsigned char *to);
+/* How many homes from one on, of so many, are a hole of what the image's bytes are read from, and stand in no slot: zeros. */
+uint64_t count_empty(struct kefs_image *image, uint32_t home, uint64_t most);
 static inline size_t durable_pages(const struct kefs_image *image, unsigned f) { return (size_t)pages_of(image->files[f].length); }
 /* Whether sector 0, which has to be there, is these eight bytes again and again. */
 int has_mark(const struct kefs_image *image, const char *mark);
@@ -360,8 +366,8 @@ int new_memory_file(void);
 int set_length(int fd, off_t length);
 int write_all(int fd, const void *bytes, size_t length, off_t offset);
 int read_all(int fd, void *to, size_t length, off_t offset);
-/* As read_all, of memory of zeros: what is a hole of the file is left as it is, and takes no memory. */
-int read_data(int fd, void *to, size_t length, off_t offset);
+/* As read_all, of memory of zeros: what is a hole of the file is left as it is, and takes no memory. How many bytes are none is added to *read. */
+int read_data(int fd, void *to, size_t length, off_t offset, size_t *read);
 int sync_data(int fd);
 /* Where the next bytes from `at` on begin that are no hole, or `end`, and in *hole where these end. Where the file system does not say, all are none. */
 off_t next_data(int fd, off_t at, off_t end, off_t *hole);
@@ -409,7 +415,8 @@ const unsigned char *map_sectors(const struct kefs_image *image, size_t sectors)
 int copy_head(struct kefs_image *image);
 /* Room for plans of this layout, and for what its commits take, which takes none before it is touched: KEFS_OK or ENOMEM. */
 int make_rooms(struct kefs_image *image);
-/* Room for a plan of so many new pages besides, more or fewer than before: KEFS_OK or ENOMEM. */
+/* Room for a plan of so many new pages besides, more or fewer than before, each of which takes so many calls at the most: KEFS_OK or ENOMEM. */
+enum { ROWS_OF_PAGE = PAGE / SECTOR };
 int set_plan_rooms(struct kefs_image *image, size_t added);
 /* Carries out the journal of a host file that is settled: KEFS_OK or a result. A reader makes no call of the plan: it reads through the
    journal, and commits nothing. */
@@ -473,11 +480,17 @@ void end_tracking(struct kefs_image *image);
 /* Reads the pages of a new mapping, or has them read later, and tracks it from here on: KEFS_OK or an errno value. */
 int load(struct mapping *mapping);
 /* Has the kernel note the stores to these pages of new memory from here on, where the tracker is the scan: KEFS_OK or an errno value. */
-int watch_stores(const struct span *span);
+int watch_new(const struct span *span);
+/* Finds the pages of new memory that were touched, among them all that were stored to, and gives each row of them to `take`, in their order: KEFS_OK or an errno
+   value. It is for trackers that do not note stores to new pages. */
+typedef void take_row(struct mapping *mapping, size_t first, size_t end);
+int find_touched(const struct span *span, take_row *take);
 /* Marks the pages that were stored to since the last look: KEFS_OK or an errno value. */
 int note_dirty(const struct span *span);
 /* Has the next store to each of these pages noted, where note_dirty has not done so. It comes after their marks were taken. */
 int seal(const struct span *span);
+/* Has stores to new pages go unnoted again, as before they were sealed. */
+void unseal(const struct span *span);
 /* Forgets the stores to these pages that no mark names yet. */
 int forget_stores(const struct span *span);
 /* Marks the pages as dirty, and lets system calls store to them. */
@@ -493,6 +506,8 @@ static inline uint64_t order_of(const struct famsync_page *page) { return (uint6
 int check_ranges(struct kefs_image *image, const struct kefs_range *ranges, size_t count);
 /* Whether a range has a byte of the addresses that are kept for a file, where it is mapped. */
 int has_byte_of(struct mapping *mapping, const struct kefs_range *ranges, size_t count);
+/* The first page from `k` on whose mark is not 0, in an area that is not clean, or `end`. */
+size_t next_marked(const struct mapping *mapping, size_t k, size_t end);
 /* Page `k` of a mapped file as the last commit has it that was started or made. */
 void copy_committed(struct mapping *mapping, size_t k, unsigned char *to);
 /* Whether a page of a file is taken. Where the file is not mapped none is. */
@@ -607,9 +622,9 @@ int keep_addresses(struct mapping *mapping, void *wanted);
 int put_memory(const struct span *span);
 /* Takes what is there away, so that a touch is a SIGBUS. */
 int take_memory(const struct span *span);
-/* Sets the mark of each of these pages. */
-void set_marks(const struct span *span, unsigned char mark);
-/* Gives a mapping more pages, of zeros and dirty, */
+/* Takes the marks of these pages away. */
+void clear_marks(const struct span *span);
+/* Gives a mapping more pages, of zeros. Those that the file has durably are dirty, and new ones are when they are stored to, */
 int lengthen_mapping(struct mapping *mapping, size_t pages);
 /* or more that are as the last commit has them, and clean, */
 int restore_mapping(struct mapping *mapping, size_t pages);

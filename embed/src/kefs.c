@@ -131,7 +131,7 @@ static int fill_mapping(struct mapping *mapping) {
    durable. */
 static int new_mapping(struct kefs_image *image, unsigned file, void *wanted, size_t kept) {
   struct mapping *mapping = &image->mappings[file];
-  *mapping = (struct mapping){.image = image, .file = image->files[file], .pages = (size_t)pages_of(left_of(image, file)), .kept = kept};
+  *mapping = (struct mapping){.image = image, .file = image->files[file], .pages = (size_t)pages_of(left_of(image, file)), .kept = kept, .bare = SIZE_MAX};
   int result = keep_addresses(mapping, wanted);
   if (result == KEFS_OK) result = make_marks(mapping);
   if (result == KEFS_OK) result = fill_mapping(mapping);

@@ -220,3 +220,12 @@ void copy_durable(struct kefs_image *image, unsigned f, size_t k, unsigned char 
   copy_durable_page(image, home_of_page(file, k), to);
   memset(to + inside, 0, PAGE - inside);
 }
+
+uint64_t count_empty(struct kefs_image *image, uint32_t home, uint64_t most) {
+  const struct places *places = image_places(image);
+  off_t before, hole, at = home_offset(&image->layout, home), length = (off_t)(PAGE * most);
+  int fd = file_of_bytes(image, &before);
+  uint64_t end = home + (uint64_t)(next_data(fd, before + at, before + at + length, &hole) - before - at) / PAGE;
+  size_t i = first_place(places, home);
+  return (i < places->count && places->list[i].home < end ? places->list[i].home : end) - home;
+}

@@ -195,7 +195,7 @@ static int copy_part(struct kefs_image *image, size_t first, size_t end) {
   void *at = mmap((void *)(uintptr_t)(image->bytes + from), to - from, PROT_READ | PROT_WRITE, MAP_PRIVATE | MAP_ANONYMOUS | MAP_NORESERVE | MAP_FIXED, -1, 0);
   if (at == MAP_FAILED) return fail(image, ENOMEM, "memory for sectors %zu to %zu", first, end - 1);
   size_t length = to > SECTOR * image->sectors ? SECTOR * image->sectors - from : to - from;
-  int number = read_data(image->fd, at, length, (off_t)from);
+  int number = read_data(image->fd, at, length, (off_t)from, &(size_t){0});
   return number == KEFS_OK ? KEFS_OK : fail(image, KEFS_DEVICE, "pread of %zu bytes at sector %zu: %s", length, from / SECTOR, kefs_strerror(number));
 }
 
@@ -259,7 +259,7 @@ static int read_head(struct kefs_image *image) {
 
 /* Room for plans, for what their commits take, and memory to make them in. The worst plan writes each page sector by sector. */
 
-enum { HEAP_OF_BLOCK = 68 << 10, HEAP = (1 << 20) + (32 << 10), HEAP_OF_DIRECTORY_PAGE = 24 << 10, ROWS_OF_PAGE = PAGE / SECTOR };
+enum { HEAP_OF_BLOCK = 68 << 10, HEAP = (1 << 20) + (32 << 10), HEAP_OF_DIRECTORY_PAGE = 24 << 10 };
 
 static int new_plan(struct plan *plan, size_t room) {
   *plan = (struct plan){.room = room, .calls = new_memory(room * sizeof *plan->calls), .rows = new_memory(room * sizeof *plan->rows)};

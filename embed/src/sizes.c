@@ -4,9 +4,10 @@
    mapped it is noted how many of its durable bytes are left: behind these it is zeros. A mapping that is made later brings both about, and from then on its
    pages tell.
 
-   A commit that takes a length takes all pages of the file that are *new*: those behind the last one that is durable. They are written to free homes, and take
-   no slot of the pool, so they are listed apart, and may be any number. Of the other pages it takes the dirty ones of its ranges, and those of the file's
-   *edge*: the last durable page, where this is not full and the file gets longer; and of a file that is not mapped all that became zeros. What the edge has
+   A commit that takes a length takes all pages of the file that are *new*: those behind the last one that is durable. They go to free homes, and may be any
+   number. Where they are few all of them are listed, and take slots of the pool as others do. Where they are many those are listed that are more than zeros, and
+   the rest become zeros by calls of the plan that are of many homes each: of a file that is not mapped none is listed, and of one that is those are looked at
+   that were touched. Of the other pages it takes the dirty ones of its ranges, and those of the file's *edge*: the last durable page, where this is not full and the file gets longer; and of a file that is not mapped all that became zeros. What the edge has
    more than the ranges goes as it is durable, or is zeros, and is not marked as taken. */
 #include "internal.h"
 #include <errno.h>
@@ -164,18 +165,19 @@ static void add_size(struct kefs_image *image, unsigned f) {
    new pages than MOST_KEPT goes with its commit. For so many the plans have 8 MiB of addresses, and memory only where one of them was as long. */
 enum { LEAST_ROOM = 64, MOST_KEPT = 1024 };
 
-static size_t room_for(size_t added) {
+static size_t room_for(size_t pages) {
   size_t room = LEAST_ROOM;
-  while (room < added && room < MOST_KEPT) room *= 2;
-  return room < added ? added : room;
+  while (room < pages && room < MOST_KEPT) room *= 2;
+  return room < pages ? pages : room;
 }
 
 static size_t lent_length(const struct kefs_image *image, size_t room) { return (room + image->places.room) * sizeof(struct famsync_bytes); }
 
-static void drop_lent(struct kefs_image *image) {
+static void drop_lists(struct kefs_image *image) {
   struct resizing *resizing = &image->resizing;
+  drop_memory(resizing->fresh, resizing->room * sizeof *resizing->fresh);
   drop_memory(resizing->lent.bytes, lent_length(image, resizing->room));
-  resizing->lent.bytes = NULL, resizing->room = 0;
+  resizing->fresh = NULL, resizing->lent.bytes = NULL, resizing->room = 0;
 }
 
 static void drop_edges(struct kefs_image *image) {
@@ -197,29 +199,58 @@ static int make_edges(struct kefs_image *image) {
   return KEFS_OK;
 }
 
-/* Where there is room in plans, and none for the rest, the end of the commit gives that of the plans back. */
-static int make_sizes_room(struct kefs_image *image) {
+/* Few new pages all go into slots, in a commit of two syncs as any other (the proved part has this number too). A list that leaves some out takes a sync more. */
+enum { MOST_IN_SLOTS = 128 };
+static int lists_all(const struct resizing *resizing) { return resizing->added <= MOST_IN_SLOTS; }
+
+/* Which of many pages are listed is not known before: there are addresses for all that are mapped, and memory for those that are listed. */
+static size_t most_listed(const struct kefs_image *image) {
+  const struct resizing *resizing = &image->resizing;
+  size_t pages = 0;
+  for (size_t i = 0; i < resizing->count; i++)
+    if (lists_all(resizing) || image->mappings[resizing->sizes[i].file].at != NULL) pages += added_pages(image, resizing->sizes[i].file);
+  return pages;
+}
+
+static int make_lists(struct kefs_image *image) {
   struct resizing *resizing = &image->resizing;
-  size_t room = room_for(resizing->added);
-  int number = make_edges(image);
-  if (number != KEFS_OK || room <= resizing->room) return number;
-  number = set_plan_rooms(image, room);
-  if (number != KEFS_OK) return number;
-  drop_lent(image);
-  resizing->lent.bytes = new_memory(lent_length(image, room));
-  if (resizing->lent.bytes == NULL) return ENOMEM;
+  size_t room = room_for(most_listed(image));
+  resizing->listed = 0;
+  if (room <= resizing->room) return KEFS_OK;
+  drop_lists(image);
   resizing->room = room;
-  return KEFS_OK;
+  resizing->fresh = new_memory(room * sizeof *resizing->fresh);
+  resizing->lent.bytes = new_memory(lent_length(image, room));
+  if (resizing->fresh != NULL && resizing->lent.bytes != NULL) return KEFS_OK;
+  return drop_lists(image), ENOMEM;
+}
+
+/* How many calls make new pages zeros at the most: one for each part that a file lies in then. */
+static size_t most_zeros(const struct kefs_image *image) {
+  const struct resizing *resizing = &image->resizing;
+  size_t calls = 0;
+  for (size_t i = 0; i < resizing->count && resizing->listed < resizing->added; i++) calls += image->files[resizing->sizes[i].file].extent_count + 1;
+  return calls;
+}
+
+static int make_plan_room(struct kefs_image *image) {
+  struct resizing *resizing = &image->resizing;
+  size_t room = room_for(resizing->listed + (most_zeros(image) + ROWS_OF_PAGE - 1) / ROWS_OF_PAGE);
+  if (room <= resizing->planned_room) return KEFS_OK;
+  int number = set_plan_rooms(image, room);
+  if (number == KEFS_OK) resizing->planned_room = room;
+  return number;
 }
 
 static void trim_room(struct kefs_image *image) {
-  if (image->resizing.room > MOST_KEPT) drop_lent(image);
-  if (image->resizing.edge_room > LEAST_ROOM) drop_edges(image);
-  set_plan_rooms(image, image->resizing.room);
+  struct resizing *resizing = &image->resizing;
+  if (resizing->room > MOST_KEPT) drop_lists(image);
+  if (resizing->edge_room > LEAST_ROOM) drop_edges(image);
+  if (resizing->planned_room > MOST_KEPT && set_plan_rooms(image, 0) == KEFS_OK) resizing->planned_room = 0;
 }
 
 void drop_sizes(struct kefs_image *image) {
-  drop_lent(image);
+  drop_lists(image);
   drop_edges(image);
 }
 
@@ -229,14 +260,58 @@ static struct span new_pages(struct kefs_image *image, unsigned f) {
   return (struct span){mapping, mapping->pages - (mapping->at == NULL ? 0 : added_pages(image, f)), mapping->pages};
 }
 
-/* As any page that is taken, noted, taken and sealed in this order. They stay new until the commit is done, so no mark has to say that they are taken. */
+static void list_page(struct kefs_image *image, unsigned f, size_t k, const unsigned char *bytes) {
+  struct resizing *resizing = &image->resizing;
+  resizing->lent.bytes[resizing->listed].at = bytes;
+  resizing->fresh[resizing->listed++] = (struct famsync_page){(uint16_t)f, (uint32_t)k};
+}
+
+/* Those of these pages that are more than zeros. */
+static void list_stored(struct mapping *mapping, size_t first, size_t end) {
+  for (size_t k = first; k < end; k++)
+    if (!is_zero(mapping->at + k * PAGE, PAGE)) list_page(mapping->image, file_number(mapping), k, mapping->at + k * PAGE);
+}
+
+static void list_all(struct mapping *mapping, size_t first, size_t end) {
+  for (size_t k = first; k < end; k++) list_page(mapping->image, file_number(mapping), k, mapping->at + k * PAGE);
+}
+
+/* What a mark says that is set from here on is for the next commit. */
+static void list_marked(const struct span *span) {
+  for (size_t k = next_marked(span->mapping, span->first, span->end); k < span->end; k = next_marked(span->mapping, k + 1, span->end)) {
+    drop_mark(&span->mapping->marks[k], DIRTY);
+    list_stored(span->mapping, k, k + 1);
+  }
+}
+
+/* As any page that is taken, noted, taken and sealed in this order: what is stored from then on to a page, listed or not, is noted. They stay new until the commit
+   is done, so no mark has to say that they are taken. Where no tracker notes stores to them all that were touched are looked at. */
 static int take_new_pages(struct kefs_image *image, unsigned f) {
   struct span span = new_pages(image, f);
   if (span.first == span.end) return KEFS_OK;
-  int number = note_dirty(&span);
+  int number = note_dirty(&span), are_noted = image->tracker == TRACKER_SCAN, takes_all = lists_all(&image->resizing);
   if (number != KEFS_OK) return number;
-  set_marks(&span, 0);
-  return seal(&span);
+  if (are_noted && !takes_all) return list_marked(&span), KEFS_OK;
+  clear_marks(&span);
+  number = seal(&span);
+  if (number == KEFS_OK && takes_all) list_all(span.mapping, span.first, span.end);
+  return number != KEFS_OK || takes_all ? number : find_touched(&span, list_stored);
+}
+
+static int take_new_pages_of(struct kefs_image *image, unsigned f) {
+  if (image->mappings[f].at != NULL) return take_new_pages(image, f);
+  size_t first = durable_pages(image, f), end = first + (lists_all(&image->resizing) ? added_pages(image, f) : 0);
+  for (size_t k = first; k < end; k++) list_page(image, f, k, zeros);
+  return KEFS_OK;
+}
+
+/* Where there is room in plans, and none for the rest, the end of the commit gives that of the plans back. */
+static int list_new_pages(struct kefs_image *image) {
+  const struct resizing *resizing = &image->resizing;
+  int number = make_edges(image);
+  if (number == KEFS_OK) number = make_lists(image);
+  for (size_t i = 0; i < resizing->count && number == KEFS_OK; i++) number = take_new_pages_of(image, resizing->sizes[i].file);
+  return number == KEFS_OK ? make_plan_room(image) : number;
 }
 
 int take_sizes(struct kefs_image *image, const struct kefs_range *ranges, size_t count) {
@@ -245,8 +320,7 @@ int take_sizes(struct kefs_image *image, const struct kefs_range *ranges, size_t
   find_meant(image, ranges, count, &meant);
   resizing->has_names = meant.names;
   for (unsigned f = first_number(&meant.files); f < KEFS_FILES; f = next_number(&meant.files, f + 1)) add_size(image, f);
-  int number = resizing->count > 0 ? make_sizes_room(image) : KEFS_OK;
-  for (size_t i = 0; i < resizing->count && number == KEFS_OK; i++) number = take_new_pages(image, resizing->sizes[i].file);
+  int number = resizing->count > 0 ? list_new_pages(image) : KEFS_OK;
   return number == KEFS_OK ? KEFS_OK : fail(image, number, "taking new pages");
 }
 
@@ -284,21 +358,12 @@ const unsigned char *edge_bytes(struct kefs_image *image, unsigned f, size_t k) 
   return edge;
 }
 
-static size_t list_new_bytes(struct kefs_image *image, unsigned f, size_t at) {
-  const struct mapping *mapping = &image->mappings[f];
-  size_t first = durable_pages(image, f), added = added_pages(image, f);
-  for (size_t k = first; k < first + added; k++)
-    image->resizing.lent.bytes[at++].at = mapping->at == NULL ? zeros : mapping->at + k * PAGE;
-  return at;
-}
-
+/* What is taken comes behind what is listed. */
 static void list_lent(struct kefs_image *image) {
   struct resizing *resizing = &image->resizing;
-  size_t at = 0;
-  for (size_t i = 0; i < resizing->count; i++) at = list_new_bytes(image, resizing->sizes[i].file, at);
   resizing->lent.pages = image->taken.pages;
   resizing->lent.count = image->taken.count;
-  memcpy(resizing->lent.bytes + at, image->taken.bytes, image->taken.count * sizeof *image->taken.bytes);
+  memcpy(resizing->lent.bytes + resizing->listed, image->taken.bytes, image->taken.count * sizeof *image->taken.bytes);
 }
 
 static int result_of(uint32_t answer) {
@@ -318,8 +383,8 @@ static uint32_t plan_sizes(struct kefs_image *image, struct famsync_handle *hand
   const struct taken *lent = &resizing->lent;
   begin_heap(&image->heap);
   uint32_t answer = famsync_resize(handle, image->bytes, image->sectors, scratch->calls, scratch->room, scratch->rows, scratch->room, &plan->used,
-                                   plan->calls, plan->room, plan->rows, plan->room, resizing->sizes, resizing->count, lent->pages, lent->count,
-                                   lent->bytes, resizing->added + lent->count);
+                                   plan->calls, plan->room, plan->rows, plan->room, resizing->sizes, resizing->count, resizing->fresh, resizing->listed,
+                                   lent->pages, lent->count, lent->bytes, resizing->listed + lent->count);
   end_heap();
   return answer;
 }
@@ -359,12 +424,15 @@ int next_new_homes(struct new_homes *it, struct extent *homes) {
   return 0;
 }
 
-/* Pages that are new still are dirty, and open to system calls, as they were. */
-static void give_back_new_pages(struct kefs_image *image, unsigned f) {
-  struct span span = new_pages(image, f);
-  if (span.first == span.end) return;
-  set_marks(&span, DIRTY);
-  open_pages(&span);
+/* Those that were listed are dirty still. And as before system calls may store to all that are new. */
+static void give_back_new_pages(struct kefs_image *image) {
+  const struct resizing *resizing = &image->resizing;
+  for (size_t i = 0; i < resizing->listed; i++)
+    if (image->mappings[resizing->fresh[i].file].at != NULL) mark_dirty(&image->mappings[resizing->fresh[i].file], resizing->fresh[i].page);
+  for (size_t i = 0; i < resizing->count; i++) {
+    struct span span = new_pages(image, resizing->sizes[i].file);
+    if (span.first < span.end) unseal(&span);
+  }
 }
 
 /* Homes are listed anew after a commit of more files than these: that takes less than so many changes of a long list (growing.c). */
@@ -377,10 +445,9 @@ void end_sizes(struct kefs_image *image, int done) {
   if (resizing->count == 0) return;
   if (done && resizing->count > MOST_FOLLOWED) image->homes.is_listed = 0;
   if (done) read_entries(image, resizing->sizes, resizing->count);
-  for (size_t i = 0; i < resizing->count; i++)
-    if (done) forget_size(image, resizing->sizes[i].file);
-    else give_back_new_pages(image, resizing->sizes[i].file);
-  resizing->count = resizing->added = resizing->directory = resizing->lent.count = 0;
+  if (!done) give_back_new_pages(image);
+  for (size_t i = 0; i < resizing->count && done; i++) forget_size(image, resizing->sizes[i].file);
+  resizing->count = resizing->added = resizing->listed = resizing->directory = resizing->lent.count = 0;
   trim_room(image);
 }
 

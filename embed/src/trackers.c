@@ -12,11 +12,12 @@
 #include <ucontext.h>
 #include <unistd.h>
 
-/* PAGEMAP_SCAN of Linux 6.7 and later, and the features of userfaultfd that go with it, for older headers. */
+/* PAGEMAP_SCAN of Linux 6.7 and later, and the features of userfaultfd that go with it, for older headers. A page IS_ZEROS for which the system has its one page of
+   zeros. */
 struct scanned { uint64_t start, end, categories; };
 struct scan { uint64_t size, flags, start, end, walk_end, vec, vec_len, max_pages, inverted, mask, anyof, returned; };
 #define SCAN _IOWR('f', 16, struct scan)
-enum { IS_WRITTEN = 1 << 1, IS_PRESENT = 1 << 3, IS_SWAPPED = 1 << 4, PROTECT_MATCHING = 1, CHECK_ASYNC = 2 };
+enum { IS_WRITTEN = 1 << 1, IS_PRESENT = 1 << 3, IS_SWAPPED = 1 << 4, IS_ZEROS = 1 << 5, PROTECT_MATCHING = 1, CHECK_ASYNC = 2 };
 enum { WP_UNPOPULATED = 1 << 13, WP_ASYNC = 1 << 15, SIGBUS_ON_MISSING = 1 << 7, USER_MODE_ONLY = 1 };
 
 static unsigned char *page_at(const struct mapping *mapping, size_t k) { return mapping->at + k * PAGE; }
@@ -228,12 +229,17 @@ static int has_no_scan(int number) {
   return number == ENOSYS || number == EPERM || number == EINVAL || number == ENOTTY || number == ENOENT || number == EACCES;
 }
 
+static int open_pagemap(struct kefs_image *image) {
+  if (image->pagemap < 0) image->pagemap = open_high("/proc/self/pagemap", O_RDONLY | O_CLOEXEC, 0);
+  return image->pagemap < 0 ? errno : KEFS_OK;
+}
+
 static int try_scans(struct kefs_image *image, uint64_t features) {
   struct scan none = {.size = sizeof none};
   image->faults = open_faults(WP_ASYNC | WP_UNPOPULATED | features);
   if (image->faults < 0) return errno;
-  image->pagemap = open_high("/proc/self/pagemap", O_RDONLY | O_CLOEXEC, 0);
-  if (image->pagemap < 0) return errno;
+  int number = open_pagemap(image);
+  if (number != KEFS_OK) return number;
   return ioctl(image->pagemap, SCAN, &none) >= 0 ? KEFS_OK : errno;
 }
 
@@ -281,7 +287,12 @@ void end_tracking(struct kefs_image *image) {
   image->faults = image->pagemap = -1;
 }
 
-/* Reading a mapping */
+/* Noting stores. A page is watched by a protection that the kernel takes away when it is stored to. One that nobody has touched has it too, by an entry of the kernel's
+   tables, which takes memory, and time in each look. So of much new memory, and where most of a file is a hole, those alone are protected that are there. From these
+   pages on the mapping is *bare*: a page that is there without protection was stored to, but for the system's page of zeros, which a read brings, where the page is
+   zeros durably. To look so takes twice as long for a page that is there. Huge pages are none there, of which older kernels do not say that they are zeros. */
+
+enum { MOST_WATCHED = 4096 }; /* pages of new memory that are not touched */
 
 static struct uffdio_range range_of(const struct span *span) {
   return (struct uffdio_range){(uintptr_t)page_at(span->mapping, span->first), (span->end - span->first) * PAGE};
@@ -297,11 +308,122 @@ static int protect(const struct span *span) {
   return ioctl(span->mapping->image->faults, UFFDIO_WRITEPROTECT, &all) == 0 ? KEFS_OK : errno;
 }
 
-int watch_stores(const struct span *span) {
+/* How many pages from one on, up to `end`, are zeros durably since their homes are a hole, or 0 where that is not known. */
+static size_t empty_pages(const struct mapping *mapping, size_t k, size_t end) {
+  struct kefs_image *image = mapping->image;
+  uint32_t home = 0;
+  size_t run = image->starts.pages > 0 ? 0 : homes_from(&image->files[file_number(mapping)], k, &home);
+  return run == 0 ? 0 : (size_t)count_empty(image, home, run < end - k ? run : end - k);
+}
+
+/* Of pages for which the system has its page of zeros those that are other bytes durably: a system may bring it in the place of zeros that were stored, too. */
+static void take_zeros(struct mapping *mapping, size_t first, size_t end, take_row *take) {
+  static const unsigned char zeros[PAGE];
+  unsigned char page[PAGE];
+  size_t durable = durable_pages(mapping->image, file_number(mapping));
+  if (end > durable) end = durable;
+  for (size_t k = first, empty; k < end; k += empty > 0 ? empty : 1) {
+    empty = empty_pages(mapping, k, end);
+    if (empty > 0) continue;
+    copy_committed(mapping, k, page);
+    if (memcmp(page, zeros, PAGE) != 0) take(mapping, k, k + 1);
+  }
+}
+
+/* Gives each row of pages that a scan finds to `take`, where it is not NULL. */
+static int scan_span(const struct span *span, struct scan scan, take_row *take) {
+  uintptr_t begin = (uintptr_t)span->mapping->at;
+  struct scanned found[128];
+  scan.size = sizeof scan, scan.vec = (uintptr_t)found, scan.vec_len = sizeof found / sizeof *found;
+  scan.walk_end = begin + span->first * PAGE, scan.end = begin + span->end * PAGE;
+  while (scan.walk_end < scan.end) {
+    scan.start = scan.walk_end;
+    int count = ioctl(span->mapping->image->pagemap, SCAN, &scan);
+    if (count < 0) return errno;
+    for (int i = 0; i < count && take != NULL; i++) {
+      size_t first = (found[i].start - begin) / PAGE, end = (found[i].end - begin) / PAGE;
+      if ((found[i].categories & IS_ZEROS) != 0) take_zeros(span->mapping, first, end, take);
+      else take(span->mapping, first, end);
+    }
+  }
+  return KEFS_OK;
+}
+
+/* Gives the pages that the kernel says were stored to since the last look to `take`, and begins anew. A page that was not read yet has no protection, as a dirty one,
+   but is neither present nor swapped. Where all pages were read the kernel is not asked for that, which takes it twice as long. */
+static int look_at(const struct span *span, int is_bare, take_row *take) {
+  uint64_t there = is_bare || span->mapping->image->lazy ? IS_PRESENT | IS_SWAPPED : 0, told = IS_WRITTEN | (is_bare ? IS_ZEROS : 0);
+  return scan_span(span, (struct scan){.flags = PROTECT_MATCHING | CHECK_ASYNC, .mask = IS_WRITTEN, .anyof = there, .returned = told}, take);
+}
+
+static int look(const struct span *span, take_row *take) {
+  struct span front = *span, bare = *span;
+  if (front.end > span->mapping->bare) front.end = span->mapping->bare;
+  if (bare.first < span->mapping->bare) bare.first = span->mapping->bare;
+  int number = front.first < front.end ? look_at(&front, 0, take) : KEFS_OK;
+  return number == KEFS_OK && bare.first < bare.end ? look_at(&bare, 1, take) : number;
+}
+
+static int watch_all(const struct span *span) {
   if (span->mapping->image->tracker != TRACKER_SCAN || span->first == span->end) return KEFS_OK;
   int number = register_faults(span, UFFDIO_REGISTER_MODE_WP);
   return number == KEFS_OK ? protect(span) : number;
 }
+
+/* What was put there so far is no store. */
+static int watch_touched(const struct span *span) {
+  struct mapping *mapping = span->mapping;
+  if (mapping->image->tracker != TRACKER_SCAN) return KEFS_OK;
+  madvise(page_at(mapping, span->first), (span->end - span->first) * PAGE, MADV_NOHUGEPAGE);
+  int number = register_faults(span, UFFDIO_REGISTER_MODE_WP);
+  if (mapping->bare > span->first) mapping->bare = span->first;
+  return number == KEFS_OK ? look(span, NULL) : number;
+}
+
+int watch_new(const struct span *span) { return (span->end - span->first > MOST_WATCHED ? watch_touched : watch_all)(span); }
+
+static void mark_row(struct mapping *mapping, size_t first, size_t end) {
+  for (size_t k = first; k < end; k++) mark_dirty(mapping, k);
+}
+
+int note_dirty(const struct span *span) { return span->mapping->image->tracker == TRACKER_SCAN ? look(span, mark_row) : KEFS_OK; }
+
+/* A scan has protected the pages already. */
+int seal(const struct span *span) {
+  if (span->mapping->image->tracker != TRACKER_SIGNAL) return KEFS_OK;
+  return mprotect(page_at(span->mapping, span->first), (span->end - span->first) * PAGE, PROT_READ) == 0 ? KEFS_OK : errno;
+}
+
+/* Where the system makes no more mappings they stay as they are, and are opened one by one. */
+void unseal(const struct span *span) {
+  if (span->mapping->image->tracker == TRACKER_SIGNAL) open_span(span);
+}
+
+int forget_stores(const struct span *span) { return span->mapping->image->tracker == TRACKER_SCAN ? look(span, NULL) : seal(span); }
+
+/* Pages that were touched */
+
+/* By a word for each page, whose highest bits say that it is present or swapped. Where these can't be read all pages may have been touched. */
+static int read_touched(const struct span *span, take_row *take) {
+  struct mapping *mapping = span->mapping;
+  uint64_t words[PAGE / sizeof(uint64_t)];
+  for (size_t k = span->first, count; k < span->end; k += count) {
+    count = span->end - k < sizeof words / sizeof *words ? span->end - k : sizeof words / sizeof *words;
+    int number = read_all(mapping->image->pagemap, words, count * sizeof *words, (off_t)((uintptr_t)page_at(mapping, k) / PAGE * sizeof *words));
+    if (number != KEFS_OK) return k > span->first ? number : (take(mapping, span->first, span->end), KEFS_OK);
+    for (size_t i = 0; i < count; i++)
+      if (words[i] >> 62 != 0) take(mapping, k + i, k + i + 1);
+  }
+  return KEFS_OK;
+}
+
+int find_touched(const struct span *span, take_row *take) {
+  if (open_pagemap(span->mapping->image) != KEFS_OK) return take(span->mapping, span->first, span->end), KEFS_OK;
+  int number = scan_span(span, (struct scan){.mask = IS_ZEROS, .inverted = IS_ZEROS, .anyof = IS_PRESENT | IS_SWAPPED, .returned = IS_PRESENT}, take);
+  return has_no_scan(number) ? read_touched(span, take) : number;
+}
+
+/* Reading a mapping */
 
 static int put_page(struct mapping *mapping, size_t k) {
   unsigned char bytes[PAGE];
@@ -346,66 +468,46 @@ static int put_others(struct mapping *mapping) {
 }
 
 /* Large pages take fewer faults now, and fewer entries to look through in each scan. The first store to one splits it. In a sparse file each would take 2 MiB for
-   a page that was ever written. */
-static int read_homes(struct mapping *mapping) {
+   a page that was ever written. How many bytes were no hole goes to *read. */
+static int read_homes(struct mapping *mapping, size_t *read) {
   const struct kefs_image *image = mapping->image;
   int number = KEFS_OK, is_sparse = image->roomless != NULL;
   if (!is_sparse) madvise(mapping->at, mapping->pages * PAGE, MADV_HUGEPAGE);
+  *read = is_sparse ? 0 : mapping->pages * PAGE;
   for (size_t k = 0, run; k < mapping->pages && number == KEFS_OK; k += run) {
     uint32_t home = 0;
     run = homes_from(&mapping->file, k, &home);
     if (run > mapping->pages - k) run = mapping->pages - k;
     off_t from = home_offset(&image->layout, home);
-    number = is_sparse ? read_data(image->fd, page_at(mapping, k), run * PAGE, from) : read_all(image->fd, page_at(mapping, k), run * PAGE, from);
+    number = is_sparse ? read_data(image->fd, page_at(mapping, k), run * PAGE, from, read) : read_all(image->fd, page_at(mapping, k), run * PAGE, from);
   }
   return number == KEFS_OK ? KEFS_OK : EIO;
+}
+
+/* Reads all pages, and has the stores to them noted from then on. */
+static int load_now(const struct span *all) {
+  size_t read;
+  int number = read_homes(all->mapping, &read);
+  if (number == KEFS_OK) number = put_others(all->mapping);
+  if (number != KEFS_OK) return number;
+  return read / PAGE < all->end / 2 ? watch_new(all) : watch_all(all);
+}
+
+static int load_late(const struct span *all) {
+  struct mapping *mapping = all->mapping;
+  uint64_t write_mode = mapping->image->tracker == TRACKER_SCAN ? UFFDIO_REGISTER_MODE_WP : 0;
+  mapping->late = mapping->pages;
+  int number = register_faults(all, UFFDIO_REGISTER_MODE_MISSING | write_mode);
+  return number == KEFS_OK ? put_others(mapping) : number;
 }
 
 int load(struct mapping *mapping) {
   struct kefs_image *image = mapping->image;
   struct span all = {mapping, 0, mapping->pages};
-  uint64_t write_mode = image->tracker == TRACKER_SCAN ? UFFDIO_REGISTER_MODE_WP : 0;
   if (mapping->pages == 0) return KEFS_OK;
-  mapping->late = image->lazy ? mapping->pages : 0;
-  int number = image->lazy ? register_faults(&all, UFFDIO_REGISTER_MODE_MISSING | write_mode) : read_homes(mapping);
-  if (number == KEFS_OK) number = put_others(mapping);
-  if (number == KEFS_OK && !image->lazy) number = watch_stores(&all);
+  mapping->late = 0;
+  int number = (image->lazy ? load_late : load_now)(&all);
   int closed = image->tracker == TRACKER_SIGNAL || image->read_only || mapping->file.read_only;
   if (number == KEFS_OK && closed && mprotect(mapping->at, mapping->pages * PAGE, PROT_READ) != 0) number = errno;
   return number;
 }
-
-/* Noting stores */
-
-static void mark_pages(struct mapping *mapping, const struct scanned *found) {
-  size_t end = (found->end - (uintptr_t)mapping->at) / PAGE;
-  for (size_t k = (found->start - (uintptr_t)mapping->at) / PAGE; k < end; k++) mark_dirty(mapping, k);
-}
-
-/* Marks the pages that the kernel says were stored to since the last look, or forgets that they were, and begins anew. A page that was not read yet
-   has no protection, as a dirty one, but is neither present nor swapped. Where all pages were read the kernel is not asked for
-   that, which takes it twice as long. */
-static int look(const struct span *span, int is_marking) {
-  struct mapping *mapping = span->mapping;
-  struct scanned found[128];
-  struct scan scan = {.size = sizeof scan, .flags = PROTECT_MATCHING | CHECK_ASYNC, .walk_end = (uintptr_t)page_at(mapping, span->first),
-                      .end = (uintptr_t)page_at(mapping, span->end), .vec = (uintptr_t)found, .vec_len = sizeof found / sizeof *found,
-                      .mask = IS_WRITTEN, .anyof = mapping->image->lazy ? IS_PRESENT | IS_SWAPPED : 0, .returned = IS_WRITTEN};
-  while (scan.walk_end < scan.end) {
-    scan.start = scan.walk_end;
-    int count = ioctl(mapping->image->pagemap, SCAN, &scan);
-    if (count < 0) return errno;
-    for (int i = 0; i < count && is_marking; i++) mark_pages(mapping, &found[i]);
-  }
-  return KEFS_OK;
-}
-
-int note_dirty(const struct span *span) { return span->mapping->image->tracker == TRACKER_SCAN ? look(span, 1) : KEFS_OK; }
-
-/* A scan has protected the pages already. */
-int seal(const struct span *span) {
-  if (span->mapping->image->tracker != TRACKER_SIGNAL) return KEFS_OK;
-  return mprotect(page_at(span->mapping, span->first), (span->end - span->first) * PAGE, PROT_READ) == 0 ? KEFS_OK : errno;
-}
-
-int forget_stores(const struct span *span) { return span->mapping->image->tracker == TRACKER_SCAN ? look(span, 0) : seal(span); }

@@ -352,7 +352,7 @@ int truncate(const char *path, off_t to) {
 }
 int truncate64(const char *path, off_t to) { return truncate(path, to); }
 
-/* What gets longer is zeros, which have room on the disk when they are durable. */
+/* What gets longer is zeros. Many of them have no room on the disk, which commits take: so a sync may be refused for want of it. */
 static int allocate(int fd, int mode, off_t at, off_t bytes) {
   off_t end;
   if (flags_to_write(fd) < 0) return -1;

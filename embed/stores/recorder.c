@@ -240,6 +240,16 @@ ssize_t writev(int fd, const struct iovec *parts, int count) {
 }
 ssize_t write(int fd, const void *from, size_t length) { return writev(fd, &(struct iovec){(void *)from, length}, 1); }
 
+/* A hole is zeros, written by one call. Room is none of it. */
+int fallocate(int fd, int mode, off_t at, off_t length) {
+  int empties = (mode & (FALLOC_FL_PUNCH_HOLE | FALLOC_FL_ZERO_RANGE)) != 0;
+  if (is_recorded(fd)) look();
+  int result = NEXT(fallocate)(fd, mode, at, length);
+  if (is_recorded(fd) && result == 0 && empties) wrote(fd, at, (ssize_t)length);
+  return result;
+}
+int fallocate64(int fd, int mode, off_t at, off_t length) { return fallocate(fd, mode, at, length); }
+
 int ftruncate(int fd, off_t length) {
   if (is_recorded(fd)) look();
   int result = NEXT(ftruncate)(fd, length);

@@ -151,6 +151,27 @@ class Lengths(Grows):
             self.assertEqual((done.stdout, done.stderr), ("b'Abc' b'abc' b'\\x00Abc'\nTrue True\nb'abc'\n", ""))
             self.assertEqual(self.apart(), bytes(5))
 
+    def test_a_length_of_10_gib_takes_little(self):
+        text = (
+            "length, places = 10 << 30, (0, 5000, (5 << 30) + 77, (10 << 30) - 4)\n"
+            "print(os.fstat(fd).st_size == length, [os.pread(fd, 4, at) for at in places], os.pread(fd, 1, 7 << 30))\n"
+            "for at in places: os.pwrite(fd, b'%s', at)\n"
+            "os.fsync(fd)\n"
+            "m = mmap.mmap(fd, length)\n"
+            "m[1 << 32] = 1\n"
+        )
+        for tracker in ("scan", "signal"):
+            done = self.kefsrun("truncate", "-s", "10G", self.data, KEFS_TRACKER=tracker)
+            self.assertEqual((done.returncode, done.stderr), (0, ""))
+            self.assertLess(os.stat(self.image).st_blocks * 512, 20 << 20)
+            for before, now in ((bytes(4), "abcd"), (b"abcd", "efgh")):
+                done = self.python(text % now, KEFS_TRACKER=tracker)
+                self.assertEqual((done.stdout, done.stderr), (f"True {[before] * 4} b'\\x00'\n", ""))
+            self.assertLess(os.stat(self.image).st_blocks * 512, 20 << 20)
+            self.python("os.ftruncate(fd, 4)")
+            self.assertEqual(self.apart(), b"efgh")
+            os.unlink(self.image)
+
     def test_a_greatest_length_stays(self):
         self.assertEqual(self.python("os.pwrite(fd, b'x' * 1000, 0)", options=("-m", "1000")).returncode, 0)
         for options in ((), ("-m", "1M")):

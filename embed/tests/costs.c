@@ -153,12 +153,12 @@ int munmap(void *at, size_t length) {
   return (int)syscall(SYS_munmap, at, length);
 }
 
-/* How many more addresses, in pages, the process has after a commit of a file with so many pages more. */
+/* How many more addresses, in pages, the process has after a commit of a file with so many pages more, none of them zeros. */
 static long append(size_t pages) {
   size_t length, here;
   DONE(kefs_length(image, 0, &length));
   DONE(kefs_resize(image, 0, length + pages * PAGE));
-  store(a + length, 1);
+  memset(a + length, 1, pages * PAGE);
   size_t before = addresses_now(&here);
   maps = 0;
   DONE(kefs_commit(image, NULL, 0, NULL));

@@ -1,12 +1,14 @@
-/* cuts_lengths FOLDER LIVES [without N]: power cuts and failing calls in lives of files that grow and shrink. In a life four files, mapped and not, are
+/* cuts_lengths FOLDER LIVES [without N|zeros]: power cuts and failing calls in lives of files that grow and shrink. In a life four files, mapped and not, are
    stored to, get other lengths, are rolled back, committed whole or by ranges, started and waited for, and the image is tidied, recovered in place
    and opened anew; its host file gets longer on the way. Before each device call, and within long writes, power is cut (device.h). Each image that is
    left is opened, and its files have to be, lengths included, those after some prefix of the commits that holds each one that was acknowledged. Of
    some that are left a file grows again: it has to be zeros there, and the others as they were. And what the handle shows in memory is compared with
    what it should be after each step.
 
+   Besides, files of which most is zeros grow over homes that others had, with bytes in them, in host files that may have holes and in others.
+
    without N: a control: sync N of each commit is left out, the first, of all that it takes, or the second, of the gate. Some files have to be other
-   ones then.
+   ones then. without zeros: the calls are left out that make holes.
 
    The images are of layout 4, with the smallest pool. */
 #define _GNU_SOURCE
@@ -157,7 +159,9 @@ static int try_opening(void) {
 }
 
 static void begin(void) {
+  static const int without[] = {0, 0, FALLOC_FL_PUNCH_HOLE, FALLOC_FL_PUNCH_HOLE | FALLOC_FL_ZERO_RANGE};
   unlink(PATH);
+  modes_without = leaves_bytes ? 0 : without[one_of(4)];
   flags = KEFS_TRACK_CALLER;
   must(kefs_open_with(&image, PATH, flags | KEFS_CREATE, options()), PATH), must(kefs_close(image), PATH);
   for (int f = 0; f < FILES; f++) set_length(&may[0], f, 0), set_length(&may[0], f, options()->files[f].length);
@@ -378,6 +382,14 @@ static void commit_some(void) {
   check_clean();
 }
 
+/* Without cuts. */
+static void commit_all(void) {
+  range_count = -1;
+  take_files(&may[1], &may[0]), commits++;
+  must(kefs_commit(image, NULL, 0, NULL), "commit");
+  copy_files(&may[0], &may[1]), may_count = 1;
+}
+
 /* A start of lengths is durable when it returns; of others one wait is. What is started of a file is all that was stored to in it. */
 static void start_some(void) {
   uint64_t ticket;
@@ -493,9 +505,55 @@ static void grow_much(int files) {
   close_image();
 }
 
+/* Stores to some rows of pages of what a file has got. */
+static void store_sparsely(int f, size_t from, size_t pages) {
+  for (int row = one_of(5); row >= 0; row--) {
+    size_t first = from + (size_t)one_of((int)(pages - from)), count = one_of(3) == 0 ? 60 : (size_t)(1 + one_of(4));
+    store_in(f, first * PAGE, (first + count) * PAGE);
+  }
+}
+
+static void grow_sparsely(int f, size_t pages) {
+  size_t from = pages_of(now.lengths[f]);
+  resize_to(f, (uint32_t)(pages * PAGE) - (uint32_t)one_of(PAGE));
+  if (mapped[f] != NULL && one_of(4) > 0) store_sparsely(f, from, pages);
+}
+
+/* Full of bytes, of which some stand in slots, and then short again. */
+static void leave_homes(int f, size_t pages) {
+  resize_to(f, (uint32_t)(pages * PAGE)), store_in(f, 0, MOST), commit_all();
+  if (one_of(2) == 0) store_in(f, 5 * PAGE, 90 * PAGE), commit_all();
+  resize_to(f, (uint32_t)one_of(9 * PAGE)), commit_all();
+}
+
+static void map_two(void) {
+  void *at;
+  for (int f = 0; f < FILES; f++) unmap_some(f);
+  for (int f = 0; f < 2; f++) must(kefs_map_growing(image, (unsigned)f, NULL, MOST, &at, NULL), "map"), mapped[f] = at, kept[f] = MOST_PAGES;
+}
+
+/* Over 128 new pages come with each of these commits, of which few are more than zeros. */
+static void live_sparsely(void) {
+  begin();
+  map_two();
+  leave_homes(0, 300 + (size_t)one_of(400));
+  for (int round = 0; round < 3 && (is_control || bad == 0); round++) {
+    int f = one_of(FILES), other = (f + 1) % FILES;
+    grow_sparsely(f, pages_of(now.lengths[f]) + 129 + (size_t)one_of(250));
+    if (one_of(2) == 0) grow_sparsely(other, pages_of(now.lengths[other]) + 1 + (size_t)one_of(100));
+    if (one_of(3) == 0 && !is_control) fail_commit();
+    if (mapped[0] == NULL) map_two();
+    commit_some(), check_memory();
+    for (int each = 0; each < 2; each++) store_sparsely(each, 0, pages_of(now.lengths[each]) + 1);
+    commit_some(), one_of(2) == 0 ? tidy_some() : (void)0;
+  }
+  close_image();
+}
+
 static int tell(long lives) {
   printf("cuts_lengths: %ld power cuts in %ld lives, %ld commits, in which files grew %ld times and were cut %ld times, %ld longer host files, ", cuts, lives,
          commits, growths, cut_off, lengthened);
+  printf("%ld calls of zeros, of %ld sectors that had other bytes, ", holes, zeroed);
   printf("%ld roll backs, %ld failing calls, %ld recoveries, %ld that grew again after a cut, %ld lengths refused: %ld bad%s\n", rolled_back, failures,
          recoveries, regrown, refused, bad, is_control ? ": a control, some have to be" : "");
   return is_control ? bad == 0 : bad > 0;
@@ -503,8 +561,9 @@ static int tell(long lives) {
 
 int main(int argc, char **argv) {
   if (argc < 3 || chdir(argv[1]) != 0) return 2;
-  is_control = argc > 4, left_out = is_control ? atoi(argv[4]) : 0;
+  is_control = argc > 4, leaves_bytes = is_control && strcmp(argv[4], "zeros") == 0, left_out = is_control ? atoi(argv[4]) : 0;
   for (int i = 0; i < atoi(argv[2]); i++) srandom((unsigned)i + 1), live();
+  for (int i = 0; i < atoi(argv[2]); i++) srandom((unsigned)i + 1), live_sparsely();
   for (int files = 1; files < FILES && !is_control; files += 2) grow_much(files);
   return tell(atoi(argv[2]));
 }

@@ -1,5 +1,5 @@
 /* A device for tests that cut power. The calls on files that the library makes are those of the program that includes this. Of those on the file that is
-   watched it is noted what they write and how long they make it, and what a sync makes durable of it. What a power cut may leave is put into another
+   watched it is noted what they write, zeros of holes too, and how long they make it, and what a sync makes durable of it. What a power cut may leave is put into another
    file: each sector that was not synced as it was, as it became, cut in its midst or of any bytes; in blocks of 4,096 bytes that have such a sector
    others of any bytes too; and the file with any length that it had since the last sync. A sync that fails leaves its sectors unsynced and clean:
    some have reached the disk, no later sync writes the others, and reads show them until the system is told to drop what it keeps. */
@@ -35,6 +35,9 @@ static size_t piece = SIZE_MAX;          /* a write of more bytes is several */
 static long calls, failing;              /* how many there were, and the one that fails, or 0 */
 static int failing_number = EIO, reaching; /* with what, and how many of four dirty sectors reach the disk in a sync that fails */
 static long syncs, left_out;             /* and the sync that is left out, as a control, or 0 */
+static long holes, zeroed;               /* calls that made zeros of many sectors, and sectors that were other bytes before */
+static int leaves_bytes;                 /* these calls do nothing, as a control */
+static int modes_without;                /* modes of fallocate(2) that the file system has not */
 static int is_cutting;                   /* power is cut before each call */
 static void cut_power(void);
 
@@ -193,9 +196,23 @@ int ftruncate(int fd, off_t length) {
   return 0;
 }
 
+/* What is a hole from here on is written as any other bytes are: each of its sectors may have become zeros, or be as it was. */
+static void empty_watched(off_t at, size_t length) {
+  static const unsigned char zeros[SECTOR];
+  add_bytes(&dirty, at, length), holes++;
+  for (off_t s = at; s < at + (off_t)length; s += SECTOR) zeroed += memcmp(cached + s, zeros, SECTOR) != 0;
+  memset(cached + at, 0, length);
+}
+
 int fallocate(int fd, int mode, off_t at, off_t length) {
+  int empties = (mode & (FALLOC_FL_PUNCH_HOLE | FALLOC_FL_ZERO_RANGE)) != 0;
+  if ((mode & modes_without) != 0) return errno = EOPNOTSUPP, -1;
   if (fd == watched && fails()) return -1;
-  return (int)syscall(SYS_fallocate, fd, mode, at, length);
+  if (fd == watched && empties && leaves_bytes) return 0;
+  int result = (int)syscall(SYS_fallocate, fd, mode, at, length);
+  if (fd == left_file && empties) add_bytes(&changed, at, (size_t)length);
+  if (fd == watched && empties && result == 0) empty_watched(at, (size_t)length);
+  return result;
 }
 
 int open(const char *path, int flags, ...) {

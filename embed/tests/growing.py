@@ -1,13 +1,13 @@
-"""growing.py LIBRARY CHANGES [control]: lists the plans of random changes of files on an image of layout 4: files get other lengths, come and go, with
-pages of theirs. Stops each plan before each of its calls and at its end, as stops.py does, and reads the files of what is left by code of its own. They
-have to be those before or after, lengths included, and at the end those after. As a control the first sync of each plan is left out, and then some have
-to be bad."""
+"""growing.py LIBRARY CHANGES [control|zeros]: lists the plans of random changes of files on an image of layout 4: files get other lengths, come and go, with
+pages of theirs, and new ones that are left out become zeros. Stops each plan before each of its calls and at its end, as stops.py does, and reads the files of what
+is left by code of its own. They have to be those before or after, lengths included, and at the end those after. As a control the first sync of each plan is left
+out, or its calls of zeros, and then some have to be bad."""
 import ctypes as c, random, sys
 from images import new_pool_image, standing_homes
 
 ROOM, PAGE, SPARE, DIRECTORY = 16384, 4096, 60, 5
 FILES = (0, 1, 2, 3, 15, 16, 63, 64, 79)  # by their numbers, of the 80 that such a directory has places for
-WRITE, SYNC, LENT, COPY = 1, 2, 3, 4
+WRITE, SYNC, LENT, COPY, ZERO = 1, 2, 3, 4, 5
 BAD_PAGES, READ_ONLY, NO_HOMES = 4, 5, 9
 
 
@@ -59,6 +59,8 @@ def files_of(image):
 def bytes_of(k, image, data):
     """The bytes that call k of the plan writes, from where it says that they lie."""
     call, at = plan.calls[k], 512 * plan.calls[k].from_
+    if call.kind == ZERO:
+        return bytes(PAGE * call.from_)
     return bytes(plan.rows[k]) if call.kind == WRITE else data[call.from_] if call.kind == LENT else image[at : at + PAGE]
 
 
@@ -71,7 +73,8 @@ def asked(name, state, image, data=(), *rest):
     assert bytes(lent) == image, "the image was written"
     assert handle.value == (state if answer else 2), "the handle"
     kinds.extend(plan.calls[k].kind for k in range(used.value))
-    return answer, [(None, b"") if plan.calls[k].kind == SYNC else (plan.calls[k].sector, bytes_of(k, image, data)) for k in range(used.value)]
+    listed = [k for k in range(used.value) if control != "zeros" or plan.calls[k].kind != ZERO]
+    return answer, [(None, b"") if plan.calls[k].kind == SYNC else (plan.calls[k].sector, bytes_of(k, image, data)) for k in listed]
 
 
 def without_first_sync(calls):
@@ -79,9 +82,10 @@ def without_first_sync(calls):
     return calls[:first] + calls[first + 1 :]
 
 
-def resized(image, sizes, pages, data):
+def resized(image, sizes, fresh, pages, data):
     kept = [c.create_string_buffer(d, PAGE) for d in data]
     return asked("famsync_resize", 1, image, data, (Size * len(sizes))(*[Size(f, n is not None, n or 0) for f, n in sizes]), c.c_size_t(len(sizes)),
+                 (Page * len(fresh))(*[Page(f, k) for f, k in fresh]), c.c_size_t(len(fresh)),
                  (Page * len(pages))(*[Page(f, k) for f, k in pages]), c.c_size_t(len(pages)),
                  (Bytes * len(data))(*[Bytes(c.addressof(b)) for b in kept]), c.c_size_t(len(data)))
 
@@ -123,7 +127,7 @@ def stops(image, calls, before, after):
 
 
 def wanted(files):
-    """Sizes, pages that are written too, and what the files are then."""
+    """Sizes, pages that are written too, new ones that are listed, and what the files are then, the others zeros."""
     sizes, after = [], dict(files)
     for f in sorted(random.sample(FILES, random.randint(0, 3))):
         length = None if random.random() < 0.15 else random.choice([0, 1, PAGE, 5000, 3 * PAGE, random.randrange(70000)])
@@ -136,7 +140,8 @@ def wanted(files):
     ends = [(f, len(files[f]) // PAGE) for f, n in sizes if f in files and n is not None and n > len(files[f]) and len(files[f]) % PAGE]
     pages = sorted({*random.sample(both, random.randint(0, min(5, len(both)))), *ends})
     new = [(f, k) for f, n in sizes for k in range(pages_of(len(files.get(f, b""))), pages_of(n or 0))]
-    return sizes, pages, new, after
+    fresh = sorted(random.sample(new, random.choice([len(new), len(new), random.randint(0, len(new)), 0])))
+    return sizes, pages, fresh, after
 
 
 def put(after, written):
@@ -148,20 +153,20 @@ def put(after, written):
 
 
 random.seed(2)
-kinds, bad, tried, refused, is_control = [], 0, 0, 0, sys.argv[3:] == ["control"]
+kinds, bad, tried, refused, control = [], 0, 0, 0, sys.argv[3] if sys.argv[3:] else ""
 image = new_pool_image([20000, 9000, 1], blocks=1, directory=DIRECTORY) + random.randbytes(PAGE * SPARE)
 for _ in range(int(sys.argv[2])):
     files = files_of(image)
-    sizes, pages, new, after = wanted(files)
-    data = [random.randbytes(PAGE) for _ in [*new, *pages]]
-    answer, calls = resized(image, sizes, pages, data)
+    sizes, pages, fresh, after = wanted(files)
+    data = [random.randbytes(PAGE) for _ in [*fresh, *pages]]
+    answer, calls = resized(image, sizes, fresh, pages, data)
     if answer == NO_HOMES:
         refused += 1
         continue
     assert answer == 0, (answer, sizes, pages)
-    following, calls = carried_out(image, calls), without_first_sync(calls) if is_control else calls
-    wrong, more = stops(image, calls, files, put(after, zip([*new, *pages], data)))
+    following, calls = carried_out(image, calls), without_first_sync(calls) if control == "control" else calls
+    wrong, more = stops(image, calls, files, put(after, zip([*fresh, *pages], data)))
     bad, tried, image = bad + wrong, tried + more, following
-assert {*kinds} >= {WRITE, SYNC, LENT}, f"calls of the kinds {kinds} alone"
-print(f"growing: {tried} stops in {sys.argv[2]} changes of files, {refused} of them without homes: {bad} bad" + is_control * ", as a control has to find")
-sys.exit((bad > 0) != is_control)
+assert {*kinds} >= {WRITE, SYNC, LENT, ZERO}, f"calls of the kinds {kinds} alone"
+print(f"growing: {tried} stops in {sys.argv[2]} changes of files, {refused} of them without homes: {bad} bad" + (control != "") * ", as a control has to find")
+sys.exit((bad > 0) != (control != ""))

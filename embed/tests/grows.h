@@ -11,8 +11,10 @@ enum { KEPT = 8 << 20 };
 
 /* A device of which one call fails, or is the last of the process */
 
-static long calls_left = -1; /* writes and syncs until the one that fails, or none does */
+static long calls_left = -1; /* writes, holes and syncs until the one that fails, or none does */
 static int failing_number;   /* the errno value, or 0: the process ends */
+static int modes_without;    /* modes of fallocate(2) that the file system has not */
+static int waits_for_no_disk; /* syncs do nothing: what a process has written is there when it has ended */
 
 static inline int fails(void) {
   if (calls_left < 0 || calls_left-- > 0) return 0;
@@ -20,9 +22,15 @@ static inline int fails(void) {
   return errno = failing_number, 1;
 }
 
-int fdatasync(int fd) { return fails() ? -1 : (int)syscall(SYS_fdatasync, fd); }
+int fdatasync(int fd) { return fails() ? -1 : waits_for_no_disk ? 0 : (int)syscall(SYS_fdatasync, fd); }
 ssize_t pwrite(int fd, const void *bytes, size_t length, off_t at) { return fails() ? -1 : syscall(SYS_pwrite64, fd, bytes, length, at); }
 ssize_t pwritev(int fd, const struct iovec *parts, int count, off_t at) { return fails() ? -1 : syscall(SYS_pwritev, fd, parts, count, at, 0); }
+
+int fallocate(int fd, int mode, off_t at, off_t length) {
+  if ((mode & modes_without) != 0) return errno = EOPNOTSUPP, -1;
+  if ((mode & (FALLOC_FL_PUNCH_HOLE | FALLOC_FL_ZERO_RANGE)) != 0 && fails()) return -1;
+  return (int)syscall(SYS_fallocate, fd, mode, at, length);
+}
 
 /* Files */
 

@@ -5,10 +5,11 @@
 #include "cases.h"
 #include <errno.h>
 
-enum { FILES = 3, KEPT = 24 * PAGE, ROUNDS = 3000 };
+enum { FILES = 3, FEW = 24 * PAGE, MANY = 260 * PAGE, ROUNDS = 3000 };
+static size_t most; /* bytes of a file */
 
 /* The bytes of a file, zeros behind its length. */
-struct bytes { unsigned char at[KEPT]; size_t length; };
+struct bytes { unsigned char at[MANY]; size_t length; };
 struct model { struct bytes durable, now; unsigned char *mapped; };
 static struct model models[FILES];
 
@@ -51,7 +52,7 @@ static void open_image(void) {
 static void map_one(unsigned f) {
   void *at;
   size_t length;
-  DONE(kefs_map_growing(image, f, NULL, KEPT, &at, &length));
+  DONE(kefs_map_growing(image, f, NULL, most, &at, &length));
   CHECK(at != NULL && length == models[f].now.length);
   models[f].mapped = at;
 }
@@ -79,9 +80,9 @@ static void store_behind(unsigned f) {
 }
 
 static void resize_one(unsigned f) {
-  static const size_t lengths[] = {0, 1, PAGE - 1, PAGE, PAGE + 1, 5 * PAGE, KEPT};
+  const size_t lengths[] = {0, 1, PAGE - 1, PAGE, PAGE + 1, 5 * PAGE, most};
   struct model *it = &models[f];
-  size_t wanted = random() % 3 == 0 ? lengths[below(COUNT_OF(lengths))] : random() % 3 == 0 ? least(it->now.length + below(PAGE), KEPT) : below(KEPT);
+  size_t wanted = random() % 3 == 0 ? lengths[below(COUNT_OF(lengths))] : random() % 3 == 0 ? least(it->now.length + below(PAGE), most) : below(most);
   DONE(kefs_resize(image, f, wanted));
   set_end(&it->now, wanted);
 }
@@ -99,18 +100,18 @@ static void make_durable(const struct kefs_range *range) {
 
 static void commit_all(void) {
   make_durable(NULL);
-  for (unsigned f = 0; f < FILES; f++) model_commit(&models[f], 0, KEPT);
+  for (unsigned f = 0; f < FILES; f++) model_commit(&models[f], 0, most);
 }
 
 static void roll_back_all(void) {
   DONE(kefs_rollback(image, NULL, 0));
-  for (unsigned f = 0; f < FILES; f++) model_roll_back(&models[f], 0, KEPT);
+  for (unsigned f = 0; f < FILES; f++) model_roll_back(&models[f], 0, most);
 }
 
 /* A range of one file, which may lie behind its end. */
 static void commit_or_roll_back_some(unsigned f, int commits) {
   struct model *it = &models[f];
-  size_t first = below(KEPT), end = first + 1 + below(KEPT - first);
+  size_t first = below(most), end = first + 1 + below(most - first);
   if (it->mapped == NULL) return;
   struct kefs_range range = {it->mapped + first, end - first};
   if (commits) make_durable(&range), model_commit(it, first, end);
@@ -149,19 +150,23 @@ static void do_something(void) {
   }
 }
 
-static void random_calls_do_as_the_model(void) {
+static void try_calls(size_t longest, int rounds) {
   struct kefs_file files[FILES] = {{9 * PAGE + 5, 0, NULL}, {0, 0, NULL}, {PAGE, 0, NULL}};
   struct kefs_options options = {.size = sizeof options, .files = files, .count = FILES, .pool = 1}; /* so few slots that it is tidied often */
   const char *seed = getenv("SEED");
   unsigned number = seed == NULL ? (unsigned)random() : (unsigned)atoi(seed);
+  most = longest;
   unlink(PATH);
   DONE(kefs_open_with(&image, PATH, KEFS_CREATE | flags, &options));
   for (unsigned f = 0; f < FILES; f++) models[f].now.length = models[f].durable.length = files[f].length;
   dprintf(1, "lengths: seed %u\n", number), srandom(number);
-  for (int round = 0; round < ROUNDS; round++) do_something(), compare(round);
+  for (int round = 0; round < rounds; round++) do_something(), compare(round);
   DONE(kefs_close(image));
 }
 
-static const struct test with_each_tracker[] = {TEST(random_calls_do_as_the_model)};
+static void random_calls_do_as_the_model(void) { try_calls(FEW, ROUNDS); }
+static void calls_on_longer_files_do_as_the_model(void) { try_calls(MANY, ROUNDS / 3); } /* new pages are listed that are more than zeros */
+
+static const struct test with_each_tracker[] = {TEST(random_calls_do_as_the_model), TEST(calls_on_longer_files_do_as_the_model)};
 
 int main(int argc, char **argv) { return argc < 2 ? 2 : run_cases(argv, NULL, 0, with_each_tracker, COUNT_OF(with_each_tracker)); }

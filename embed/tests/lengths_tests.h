@@ -5,11 +5,11 @@
 
 /* What commit number n leaves. File 0 has the number. Each other one has a length that changes each `period` commits, of up to `pages` pages, and each page
    the number of the commit that stored to it last, and a mark in its last byte, if the file was long enough for it ever since. A page is stored to by the
-   commit that brings it, and by some of the others. */
+   commit that brings it, and by some of the others; but a file that is not mapped is zeros. */
 
 enum { FILES = 5, MOST = 4096 * PAGE };
 struct kind { unsigned long period, pages; int is_mapped; };
-static const struct kind kinds[FILES] = {{1, 1, 1}, {2, 40, 1}, {3, 300, 1}, {23, 3000, 1}, {7, 9, 0}};
+static const struct kind kinds[FILES] = {{1, 1, 1}, {2, 40, 1}, {3, 300, 1}, {23, 3000, 1}, {7, 900, 0}};
 
 /* An open image, and where its files are. */
 struct store { kefs_image *image; unsigned char *at[FILES]; size_t kept[FILES]; };

@@ -49,6 +49,15 @@ ssize_t pwritev(int fd, const struct iovec *parts, int count, off_t at) {
 
 ssize_t pwrite(int fd, const void *from, size_t length, off_t at) { return pwritev(fd, &(struct iovec){(void *)(uintptr_t)from, length}, 1, at); }
 
+/* What becomes a hole is written as any other bytes are. Room is none of it. */
+int fallocate(int fd, int mode, off_t at, off_t length) {
+  if ((mode & (FALLOC_FL_PUNCH_HOLE | FALLOC_FL_ZERO_RANGE)) != 0) {
+    if (fails()) return -1;
+    note_write(fd, at, (size_t)length);
+  }
+  return (int)syscall(SYS_fallocate, fd, mode, at, length);
+}
+
 /* What is made durable is seen after the cut alone, and no test waits for a disk. */
 int fdatasync(int fd) {
   (void)fd;

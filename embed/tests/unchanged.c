@@ -153,13 +153,16 @@ static void a_full_device_changes_nothing(void) {
 /* There is room for some of the new pages. That for all of them is taken before any call of the commit. */
 static void a_full_memory_file_system_refuses_new_pages(void) {
   struct stat filler;
+  void *at;
   mount_memory("40M");
   CHECK(chdir("memory") == 0);
   begin_with(5 * PAGE, 1, 100);
   CHECK(chdir("..") == 0);
   store(a, 1);
   CHECK(committed() == 1); /* so that a recovery would write */
+  DONE(kefs_map_growing(image, 1, NULL, 5000 * PAGE, &at, NULL));
   DONE(kefs_resize(image, 1, 5000 * PAGE)); /* more than there are slots */
+  memset(at, 3, 5000 * PAGE);
   fill_memory();
   CHECK(stat("memory/filler", &filler) == 0 && truncate("memory/filler", filler.st_size - 20 * PAGE) == 0);
   uint64_t before = facts().written_bytes;
@@ -256,15 +259,16 @@ static void set_memory(rlim_t more) {
   CHECK(setrlimit(RLIMIT_AS, &limit) == 0);
 }
 
-/* File 0 gets so many pages, by a commit with ever more memory until that is enough: how often it was not. */
+/* File 0 gets so many pages, none of them zeros, by a commit with ever more memory until that is enough: how often it was not. */
 static int refused_for_memory(size_t pages) {
   int result = ENOMEM, refused = -1;
   DONE(kefs_resize(image, 0, pages * PAGE));
+  memset(a, 1, pages * PAGE);
   for (size_t more = 0, new = written(); result == ENOMEM; more += 512 << 10, refused++) {
     set_memory(more);
     result = kefs_commit(image, NULL, 0, NULL);
     set_memory(RLIM_INFINITY);
-    CHECK(is_file(5 * PAGE, 1, pages * PAGE) && written() == (result == KEFS_OK ? 0 : new));
+    CHECK(is_file(pages * PAGE, 1, pages * PAGE) && written() == (result == KEFS_OK ? 0 : new));
   }
   DONE(result);
   return refused;
