@@ -43,6 +43,8 @@ impl<S: PageSource> PageSource for Trimmed<'_, S> {
 
     ghost keeps_model = { λ t. S.keeps_model t.source.now };
 
+    ghost sure = { λ t i. S.sure t.source.now i };
+
     ghost follows = { λ s t. (t.source.ghost_name ≡ s.source.ghost_name) × Asks S.PageSource s.source.now t.source.now };
 
     fn page(&mut self, i: usize, to: &mut [u8; 4096]) -> Result<(), SourceFault> {

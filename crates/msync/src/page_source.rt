@@ -33,6 +33,8 @@ impl<E: SectorDisk, M: Levels> PageSource for TouchedPages<'_, '_, E, M> {
 
     ghost keeps_model = { λ s. HasSlot s.spots.now → E.keeps_model s.swap.now.pages.disk };
 
+    ghost sure = { λ _ _. ⊥ };
+
     ghost follows = { λ a b. (b.swap.ghost_name ≡ a.swap.ghost_name) × (b.spots.now ≡ a.spots.now) × ReadsSwap E.SectorDisk a.spots.now a.swap.now b.swap.now };
 
     #[tactic(auto, using(crate::proofs::Asking::asks_spot))]
@@ -41,10 +43,12 @@ impl<E: SectorDisk, M: Levels> PageSource for TouchedPages<'_, '_, E, M> {
         ensures kept { (HasSlot self.new.spots.now → E.keeps_model self.new.swap.now.pages.disk) → HasSlot self.old.spots.now → E.keeps_model self.old.swap.now.pages.disk }
         ensures cause { HasCause (E.failures self.old.swap.now.pages.disk) (E.failures self.new.swap.now.pages.disk) result }
         ensures given { (HasSlot self.new.spots.now → E.keeps_model self.new.swap.now.pages.disk) → OnOk result (to.new ≡ bytes_there self.old.frames.now (slots_of self.old.swap.now) (spot_at self.old.spots.now i).at) }
-        ensures same { (HasSlot self.new.spots.now → E.keeps_model self.new.swap.now.pages.disk)
-            → (k : ℕ) → bytes_there self.new.frames.now (slots_of self.new.swap.now) (spot_at self.new.spots.now k).at ≡ bytes_there self.old.frames.now (slots_of self.old.swap.now) (spot_at self.old.spots.now k).at }
-        ensures still { (k : ℕ) → (k < length self.old.spots.now) × IsReady E.SectorDisk self.old.swap.now × IsThere self.old.frames.now (slots_of self.old.swap.now) (spot_at self.old.spots.now k).at
-            → (k < length self.new.spots.now) × IsReady E.SectorDisk self.new.swap.now × IsThere self.new.frames.now (slots_of self.new.swap.now) (spot_at self.new.spots.now k).at }
+        ensures sure { (⊥ → OnOk result (to.new ≡ bytes_there self.old.frames.now (slots_of self.old.swap.now) (spot_at self.old.spots.now i).at))
+            × ((k : ℕ) → ⊥ → ⊥ × (bytes_there self.new.frames.now (slots_of self.new.swap.now) (spot_at self.new.spots.now k).at ≡ bytes_there self.old.frames.now (slots_of self.old.swap.now) (spot_at self.old.spots.now k).at)) }
+        ensures same { (k : ℕ) → ((k < length self.old.spots.now) × IsReady E.SectorDisk self.old.swap.now × IsThere self.old.frames.now (slots_of self.old.swap.now) (spot_at self.old.spots.now k).at
+            → (k < length self.new.spots.now) × IsReady E.SectorDisk self.new.swap.now × IsThere self.new.frames.now (slots_of self.new.swap.now) (spot_at self.new.spots.now k).at)
+            × ((HasSlot self.new.spots.now → E.keeps_model self.new.swap.now.pages.disk)
+            → bytes_there self.new.frames.now (slots_of self.new.swap.now) (spot_at self.new.spots.now k).at ≡ bytes_there self.old.frames.now (slots_of self.old.swap.now) (spot_at self.old.spots.now k).at) }
         ensures follows { (self.new.swap.ghost_name ≡ self.old.swap.ghost_name) × (self.new.spots.now ≡ self.old.spots.now) × ReadsSwap E.SectorDisk self.old.spots.now self.old.swap.now self.new.swap.now }
         ensures once { NamesOnce (IsSectorThere (spot_at self.old.spots.now i).at) (E.asked self.old.swap.now.pages.disk) (E.asked self.new.swap.now.pages.disk) }
     {

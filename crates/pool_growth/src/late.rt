@@ -49,6 +49,8 @@ impl<S: PageSource> PageSource for Late<'_, S> {
 
     ghost keeps_model = { λ t. S.keeps_model t.source.now };
 
+    ghost sure = { λ t j. length t.front.now ≤ j → S.sure t.source.now (t.put + index_at t.places.now (j - length t.front.now)) };
+
     ghost follows = { λ s t. (t.source.ghost_name ≡ s.source.ghost_name) × Asks S.PageSource s.source.now t.source.now };
 
     fn page(&mut self, j: usize, to: &mut [u8; 4096]) -> Result<(), SourceFault> {

@@ -35,7 +35,7 @@ KeepsPages m was now content staged = (h : ℕ) → (slot_by m now h ≡ slot_by
 
 module _ {D : Type 0} (g : Ghosts D) (m n : ℕ) (second : Bool) (was : Bool → ℕ → ℕ) (old mid : D) (p : IsWritten g m n second was old mid) (now : Bool → ℕ → ℕ) (new : D) (q : NamesMap g m n second now mid new)
     (keeps : KeepsPages m was now (g.content old) (g.content mid)) where
-  none_given : GivesHomes m was now now [] (no_pages m n (g.sector_count old) (g.content old)) (g.content old) (g.content mid)
+  none_given : GivesHomes m was now now [] (λ j. Unit {0}) (no_pages m n (g.sector_count old) (g.content old)) (g.content old) (g.content mid)
   none_given = record {
     given = λ body r below. inl refl;
     placed = λ j none. absurd (omega (arith, none));
@@ -45,13 +45,13 @@ module _ {D : Type 0} (g : Ghosts D) (m n : ℕ) (second : Bool) (was : Bool →
 
   -- every image of a stop stands for what stood,
   pub anew_moments : KeepsHomes (pool m n) g old new
-  anew_moments = weaker g old new _ _ (none_kept m n (g.sector_count old) (g.content old)) (while_naming g m n second was old mid p now new q now [] _ none_rise none_given)
+  anew_moments = weaker g old new _ _ (none_kept m n (g.sector_count old) (g.content old)) (while_naming g m n second was old mid p now new q now [] _ none_rise none_given (λ j. tt))
 
   -- also of one that spoils the gate's block,
   pub naming_blocks : LeavesInBlocks g IsPoolGate (HomesStandAs (pool m n) (g.sector_count old) (g.content old)) mid new
   naming_blocks = record {
     writes = q.names;
-    each = λ d wrote image may. none_kept m n (g.sector_count old) (g.content old) image (either_kept g m n second was old mid p now new q now [] _ none_rise none_given image (λ k off.
+    each = λ d wrote image may. none_kept m n (g.sector_count old) (g.content old) image (either_kept g m n second was old mid p now new q now [] _ none_rise none_given (λ j. tt) image (λ k off.
         ⊎_elim (λ there. ⊎_elim (λ u. absurd (q.synced there.0 u)) (λ at. absurd (off (gate_block k there.0 there.1 at))) (wrote.unsynced there.0 there.2))
         (λ e. ⊎_elim (λ at. absurd (off (gate_block k k refl at))) (λ e'. e ∙ e') (wrote.content k)) (may.kept k)));
   }
@@ -60,7 +60,7 @@ module _ {D : Type 0} (g : Ghosts D) (m n : ℕ) (second : Bool) (was : Bool →
   pub anew_settled : pool_named (g.content new) ≡ not second → ((k : ℕ) → g.unsynced new k → ⊥)
       → IsSettled (pool m n) g (g.sector_count old) (g.content old) (not second, now) new (pool_standing m n (g.content old))
   anew_settled named synced =
-      let settled = new_settled g m n second was old mid p now new q now [] _ none_rise none_given named synced in
+      let settled = new_settled g m n second was old mid p now new q now [] _ none_rise none_given (λ j. tt) named synced in
       let same = none_changed m n (g.sector_count old) (g.content old) in
       record {
         rest = settled.rest;

@@ -1,12 +1,12 @@
 -- A commit whose parts but the gate are synced: the gate, and what holds where it ends.
 use Rattle.std.proofs.Common.{◌≡◌, ◌⊎◌, ◌<◌, ℕ, not, List, Result, Ok, Err, IsErrAnd, sym, ap, subst, ◌∙◌, ⊎_elim, inl, inr, arith, ◌≤◌, ◌*◌, length}
 use Rattle.disk_model.{proofs.{Moments.{asks_once, asks_then, asks_wider, weaker}, Naming.{once_wider}}, specs.{Moments.{AsksOnly, LeavesOnly}, Stop.{Image, MayLeave, NamesOnce}, declared.sector_disk.{DiskFault.{DiskFault}, SectorDisk.{Ghosts}}}}
-use Rattle.pool_journal.proofs.{Asking.{is_used, named_asks}, Loose.{few, loose_high, loose_low}, Phases.{while_writing, still_settled, while_naming, loose_blocks, gate_blocks, new_rest, new_others, new_settled}}
+use Rattle.pool_journal.proofs.{Asking.{is_used, named_asks}, Loose.{few, loose_high, loose_low}, Phases.{while_writing, still_settled, while_naming, loose_blocks, gate_blocks, new_rest, new_others, new_settled, told_stands}}
 use Rattle.pool_journal.specs.{Commit.{TakesFree, IsWritten, NamesMap}, Committing.{GivesInPool, StagesCommit, CommitsInPool, IsPoolStaged, IsPoolNoted, PoolCommitsInBlocks}, Gates.{IsPoolGate}, Journal.{TurnsMap, free_count}, Maps.{entries_of}}
 use Rattle.pool_journal.specs.Pools.{pool, pool_named, IsLoose, IsPoolRest, IsPoolUsed, IsSingle}
 use Rattle.pool_journal.specs.declared.{map.SlotMap.{SlotMap}, pool.PoolJournal.{PoolJournal}}
 use Rattle.sync_journal.proofs.{Causes.{told_on, none_failed, puts_failed}, Shared.{blocks_weaker}, Layouts.{or_before}, Runs.{one_more, of_more}}
-use Rattle.sync_journal.specs.{Committing.{CommitsOver, HomesStandOr}, Layouts.{HomesStandAs}, Runs.{RunsOnDevice}, Source.{HasCauses}, Steps.{SyncsInto}}
+use Rattle.sync_journal.specs.{Committing.{CommitsOver, HomesStandOr}, Layouts.{HomesStandAs}, Runs.{RunsOnDevice}, Source.{HasCauses, IsTold}, Steps.{SyncsInto}}
 use Rattle.sync_journal.specs.declared.{faults.CommitFault.{CommitFault, TheVariants.{Device}}, source.PageSource.{Ghosts as SourceGhosts}}
 
 -- What a commit begins with.
@@ -51,6 +51,7 @@ module _ {D S : Type 0} (g : Ghosts D) (s : SourceGhosts S) (was : PoolJournal) 
         source = λ keeps told. still_settled g m n was.second (entries_of was.map) old mid (is_written keeps);
         source_moments = λ keeps told. while_writing g m n was.second (entries_of was.map) old mid (is_written keeps);
       };
+      sure = λ keeps. tt;
       others = λ keeps. tt;
       blocks = λ keeps given. inl (blocks_weaker g (IsLoose m was.second (entries_of was.map)) Before Either old mid (or_before (pool m n) (g.sector_count old) homes (s.pages from) (g.content old))
           (loose_blocks g m n was.second (entries_of was.map) old mid (is_written keeps)));
@@ -84,8 +85,8 @@ module _ {D S : Type 0} (g : Ghosts D) (s : SourceGhosts S) (was : PoolJournal) 
 
     any_moment : g.keeps_model new → s.keeps_model left → LeavesOnly g old new Either
     any_moment keeps kept =
-        let gives = stages.gives (names.kept keeps) kept in
-        while_naming g m n was.second (entries_of was.map) old mid (written keeps) (entries_of now.next) new (named keeps) gives.0 homes (s.pages from) given.rising gives.1
+        let gives = stages.gives (names.kept keeps) in
+        while_naming g m n was.second (entries_of was.map) old mid (written keeps) (entries_of now.next) new (named keeps) gives.0 homes (s.pages from) given.rising gives.1 (λ j. inl kept)
 
     asks_device : AsksOnly g (λ k. IsPoolGate k ⊎ IsPoolStaged m was.second (entries_of was.map) homes k) old new
     asks_device = asks_then g (λ k. IsPoolGate k ⊎ IsPoolStaged m was.second (entries_of was.map) homes k) old mid new
@@ -100,12 +101,12 @@ module _ {D S : Type 0} (g : Ghosts D) (s : SourceGhosts S) (was : PoolJournal) 
 
     blocks : g.keeps_model new → s.keeps_model left → PoolCommitsInBlocks g m was.second (entries_of was.map) Either old new
     blocks keeps kept =
-        let gives = stages.gives (names.kept keeps) kept in
+        let gives = stages.gives (names.kept keeps) in
         inr (
           mid,
           blocks_weaker g (IsLoose m was.second (entries_of was.map)) Before Either old mid (or_before (pool m n) (g.sector_count old) homes (s.pages from) (g.content old))
               (loose_blocks g m n was.second (entries_of was.map) old mid (written keeps)),
-          gate_blocks g m n was.second (entries_of was.map) old mid (written keeps) (entries_of now.next) new (named keeps) gives.0 homes (s.pages from) given.rising gives.1,
+          gate_blocks g m n was.second (entries_of was.map) old mid (written keeps) (entries_of now.next) new (named keeps) gives.0 homes (s.pages from) given.rising gives.1 (λ j. inl kept),
         )
 
     once : IsSingle m (entries_of was.map) → NamesOnce (IsPoolUsed m was.second (entries_of was.map)) (g.asked old) (g.asked new)
@@ -116,6 +117,7 @@ module _ {D S : Type 0} (g : Ghosts D) (s : SourceGhosts S) (was : PoolJournal) 
     not_named (Ok done) is failed = absurd is
     not_named (Err e) is failed = record {
       puts = puts_failed (Err e) is any_moment once run stages.asks (omega (arith, failed, stages.causes.device_calm)) stages.causes.source_calm;
+      sure = λ keeps. tt;
       others = λ keeps. tt;
       blocks = blocks;
       asks_device = asks_device;
@@ -137,8 +139,8 @@ module _ {D S : Type 0} (g : Ghosts D) (s : SourceGhosts S) (was : PoolJournal) 
         → CommitsOver g s (pool m n) (was.second, entries_of was.map) (not was.second, entries_of now.next) (was.second, entries_of was.map) homes old new from left (Ok (tt {0}))
     puts done synced calm = record {
       ok = λ keeps kept.
-          let gives = stages.gives (names.kept keeps) kept in
-          new_settled g m n was.second (entries_of was.map) old mid (written keeps) (entries_of now.next) new (named keeps) gives.0 homes (s.pages from) given.rising gives.1 (gate keeps) (synced keeps);
+          let gives = stages.gives (names.kept keeps) in
+          new_settled g m n was.second (entries_of was.map) old mid (written keeps) (entries_of now.next) new (named keeps) gives.0 homes (s.pages from) given.rising gives.1 (λ j. inl kept) (gate keeps) (synced keeps);
       rest = λ keeps. new_rest g m n was.second (entries_of was.map) old mid (written keeps) (entries_of now.next) new (named keeps) (gate keeps) (synced keeps);
       outside = λ keeps k out. ⊎_elim
           (λ w. absurd (⊎_elim (λ at. ⊎_elim (λ front. omega (arith, at, front)) (λ after. omega (arith, at, after)) out)
@@ -163,6 +165,10 @@ module _ {D S : Type 0} (g : Ghosts D) (s : SourceGhosts S) (was : PoolJournal) 
         → (end : PoolJournal) → TurnsMap now end → CommitsInPool g s was end homes old new from left (Ok (tt {0}))
     is_committed done synced calm end turns = record {
       puts = subst (λ (map : SlotMap). CommitsOver g s (pool m n) (was.second, entries_of was.map) (not was.second, entries_of map) (was.second, entries_of was.map) homes old new from left (Ok (tt {0}))) (sym turns.map) (puts done synced calm);
+      sure = λ keeps j i inside below is.
+          let gives = stages.gives (names.kept keeps) in
+          told_stands g m n was.second (entries_of was.map) old mid (written keeps) (entries_of now.next) new (named keeps) gives.0 homes (IsTold s from left) (s.pages from) given.rising gives.1
+          (done keeps ∙ ap not stages.changes.second) j i inside below (inr is);
       others = λ keeps. new_others g m n was.second (entries_of was.map) old mid (written keeps) (entries_of now.next) new (named keeps) homes (stages.others (names.kept keeps)) (done keeps ∙ ap not stages.changes.second);
       blocks = blocks;
       asks_device = asks_device;

@@ -36,12 +36,12 @@ module _ (m : ℕ) (slots : List Slot) (are : AreSlots m slots) where
     pub run_more : RunsOnDevice g (IsFilled m slots (length slots)) old mid → RunsOnDevice g (IsFilled m slots (length slots)) old new
     run_more before = one_more g (IsFilled m slots (length slots)) old mid new before (of_more g (IsPageSector (filled_at m slots j)) (IsFilled m slots (length slots)) mid new (λ k here. (j, below, here)) run)
 
-    pub held_more : (pages : ℕ → List ℕ) (page : List ℕ) → page ≡ pages j → g.keeps_model new → HoldsSlots m slots j pages (g.content mid) → ((i : ℕ) → i < 8 → g.content new (filled_at m slots j + i) ≡ part_of page i)
-        → HoldsSlots m slots (j + 1) pages (g.content new)
-    held_more pages page is keeps held written p i before small = ⊎_elim
-        (λ same. subst (λ s. g.content new (filled_at m slots s + i) ≡ part_of (pages s) i) (sym same) (written i small ∙ ap (λ b. part_of b i) is))
+    pub held_more : (was told : ℕ → Type 0) → ((k : ℕ) → told k → was k) → (pages : ℕ → List ℕ) (page : List ℕ) → (told j → page ≡ pages j) → g.keeps_model new → HoldsSlots m slots j was pages (g.content mid)
+        → ((i : ℕ) → i < 8 → g.content new (filled_at m slots j + i) ≡ part_of page i) → HoldsSlots m slots (j + 1) told pages (g.content new)
+    held_more was told before_too pages page is keeps held written p i before of small = ⊎_elim
+        (λ same. subst (λ s. g.content new (filled_at m slots s + i) ≡ part_of (pages s) i) (sym same) (written i small ∙ ap (λ b. part_of b i) (is (subst told same of))))
         (λ other. (let less : p < j = omega (arith, before, other) in
         ⊎_elim {C = g.content new (filled_at m slots p + i) ≡ g.content mid (filled_at m slots p + i)}
         (λ here. absurd (two_slots p j (filled_at m slots p + i) less below (omega arith, omega (arith, small)) here)) (λ e. e) ((run.touches keeps).content (filled_at m slots p + i))
-        ∙ held p i less small))
+        ∙ held p i less (before_too p of) small))
         (cases_eq p j)

@@ -1,7 +1,7 @@
 -- The moments of a commit: what is loose is written, and after a sync the gate.
-use Rattle.std.proofs.Common.{◌≡◌, ◌⊎◌, ◌≤◌, ◌<◌, ◌+◌, ◌*◌, ℕ, Bool, true, false, not, List, None, refl, sym, ap, ◌∙◌, ⊎_elim, inl, inr, arith}
-use Rattle.disk_model.{proofs.Moments.{started, goes_on, weaker}, specs.{Moments.{LeavesOnly}, Stop.{Image, MayLeave}, declared.sector_disk.SectorDisk.{Ghosts}}}
-use Rattle.pool_journal.{proofs.{Loose.{same_entry, slot_same, firm_map, stands_from, map_high, loose_high, loose_low, few, stood, pool_stays}, Slots.{now_stands}}, specs.{Commit.{GivesHomes, KeepsOthers, IsWritten, NamesMap}, Gates.{IsPoolGate}, Giving.{AreRising}}}
+use Rattle.std.proofs.Common.{◌≡◌, ◌⊎◌, ◌≤◌, ◌<◌, ◌+◌, ◌*◌, ℕ, Bool, true, false, not, List, length, get_or, None, refl, sym, ap, ◌∙◌, ⊎_elim, inl, inr, arith}
+use Rattle.disk_model.{proofs.Moments.{started, goes_on, weaker}, specs.{Moments.{LeavesOnly}, Sectors.{part_of}, Stop.{Image, MayLeave}, declared.sector_disk.SectorDisk.{Ghosts}}}
+use Rattle.pool_journal.{proofs.{Loose.{same_entry, slot_same, firm_map, stands_from, map_high, loose_high, loose_low, few, stood, pool_stays}, Slots.{new_page, now_stands}}, specs.{Commit.{GivesHomes, KeepsOthers, IsWritten, NamesMap}, Gates.{IsPoolGate}, Giving.{AreRising}}}
 use Rattle.pool_journal.specs.Pools.{pool, pool_gate, pool_slot, pool_home, pool_entry, pool_named, pool_under, pool_stands, pool_standing, slot_by, IsPoolRest, IsPoolMap, IsLoose}
 use Rattle.sync_journal.proofs.{Shared.{which}, Layouts.{FixesOutside, or_before}}
 use Rattle.sync_journal.specs.{Blocks.{IsSameBlock, LeavesInBlocks}, Commit.{changed, sector_or}, Committing.{HomesStandOr}, Gate.{is_open_sector}, Layout.{IsPageSector}, Layouts.{HomesStandAs, IsKept, IsSettled, StandsForPages}, Map.{home_rank}}
@@ -106,8 +106,16 @@ module _ {D : Type 0} (g : Ghosts D) (m n : ℕ) (second : Bool) (was : Bool →
         ∙ others h i none below
         ∙ sym (stood g m n second was old p.rest h i)
 
-    module _ (thin : Bool → ℕ → ℕ) (homes : List ℕ) (pages : ℕ → List ℕ) (rising : AreRising homes)
-        (gives : GivesHomes m was thin now homes pages (g.content old) (g.content mid)) where
+    -- a page that is told stands for its home
+    pub told_stands : (thin : Bool → ℕ → ℕ) (homes : List ℕ) (told : ℕ → Type 0) (pages : ℕ → List ℕ) → AreRising homes → GivesHomes m was thin now homes told pages (g.content old) (g.content mid)
+        → pool_named (g.content new) ≡ not second → (j i : ℕ) → j < length homes → i < 8 → told j → pool_standing m n (g.content new) (get_or homes j 0) i ≡ part_of (pages j) i
+    told_stands thin homes told pages rising gives named j i inside below is = (let h = get_or homes j 0 in ap (λ b. pool_under m n b (g.content new) h i) named
+        ∙ ap (λ o. g.content new (pool_stands m h o + i)) (slot_same m (pool_entry m n (not second) (g.content new)) now h (now_given (g.content new) new_off))
+        ∙ new_off (pool_stands m h (slot_by m now h) + i) (λ at. (let from = stands_from m h i (slot_by m now h) in omega (arith, from, at.1)))
+        ∙ new_page m second was thin now homes pages (g.content old) (g.content mid) rising gives (λ k from. p.run.content k) h j i is below inside refl)
+
+    module _ (thin : Bool → ℕ → ℕ) (homes : List ℕ) {told : ℕ → Type 0} (pages : ℕ → List ℕ) (rising : AreRising homes)
+        (gives : GivesHomes m was thin now homes told pages (g.content old) (g.content mid)) (all : (j : ℕ) → told j) where
       abbrev pub After : ℕ → ℕ → List ℕ
       After = changed (pool_standing m n (g.content old)) homes pages
 
@@ -131,7 +139,7 @@ module _ {D : Type 0} (g : Ghosts D) (m n : ℕ) (second : Bool) (was : Bool →
           each = λ h i below. ap (λ b. pool_under m n b image h i) named
               ∙ ap (λ o. image (pool_stands m h o + i)) (slot_same m (pool_entry m n (not second) image) now h (now_given image same))
               ∙ same (pool_stands m h (slot_by m now h) + i) (λ at. (let from = stands_from m h i (slot_by m now h) in omega (arith, from, at.1)))
-              ∙ now_stands m second was thin now homes pages (g.content old) (g.content mid) rising gives (λ k from. p.run.content k) h i below
+              ∙ now_stands m second was thin now homes pages (g.content old) (g.content mid) rising gives (λ k from. p.run.content k) all h i below
               ∙ ap (λ bytes. sector_or pages bytes i (home_rank homes h)) (sym (stood g m n second was old p.rest h i));
         };
         journal = λ bad. bad;

@@ -33,8 +33,8 @@ module _ (m : ℕ) (second : Bool) (was thin now : Bool → ℕ → ℕ) (homes 
       (λ home. ap (λ o. staged (pool_stands m h o + i)) home.0 ∙ home.1 i below)
       (moved h none)
 
-module _ (m : ℕ) (second : Bool) (was thin now : Bool → ℕ → ℕ) (homes : List ℕ) (pages : ℕ → List ℕ) (content staged : Image) (rising : AreRising homes)
-    (gives : GivesHomes m was thin now homes pages content staged) (but : (k : ℕ) → pool_gate + 8 ≤ k → IsLoose m second was k ⊎ (staged k ≡ content k)) where
+module _ (m : ℕ) (second : Bool) (was thin now : Bool → ℕ → ℕ) (homes : List ℕ) {told : ℕ → Type 0} (pages : ℕ → List ℕ) (content staged : Image) (rising : AreRising homes)
+    (gives : GivesHomes m was thin now homes told pages content staged) (but : (k : ℕ) → pool_gate + 8 ≤ k → IsLoose m second was k ⊎ (staged k ≡ content k)) where
   -- a place in rising homes is one
   one_place : (i j : ℕ) → i < length homes → j < length homes → get_or homes i 0 ≡ get_or homes j 0 → i ≡ j
   one_place i j one two same = ⊎_elim (λ e. e)
@@ -42,25 +42,25 @@ module _ (m : ℕ) (second : Bool) (was thin now : Bool → ℕ → ℕ) (homes 
       (λ from. (let rises = rising j i (omega (arith, differ, from)) one in absurd (omega (arith, rises, same)))) (cases_lt i j))
       (cases_eq i j)
 
-  -- a home of the commit stands in a slot that holds its page
-  new_page : (h j i : ℕ) → i < 8 → j < length homes → get_or homes j 0 ≡ h → staged (pool_stands m h (slot_by m now h) + i) ≡ part_of (pages j) i
-  new_page h j i below inside is = here (slot_by m now h) (slot_gives m now h)
+  -- a home of the commit stands in a slot that holds its page, where that is told
+  pub new_page : (h j i : ℕ) → told j → i < 8 → j < length homes → get_or homes j 0 ≡ h → staged (pool_stands m h (slot_by m now h) + i) ≡ part_of (pages j) i
+  new_page h j i of below inside is = here (slot_by m now h) (slot_gives m now h)
     where
       here : (o : Option (Bool × ℕ)) → Gives m now h o → staged (pool_stands m h o + i) ≡ part_of (pages j) i
       here None none = (let at = gives.placed j inside in absurd (none at.0 at.1 at.2 (at.3 ∙ ap suc is)))
       here (Some place) found = ⊎_elim
           (λ same. absurd (gives.taken place.0 place.1 found.0 j inside (sym same ∙ found.1 ∙ ap suc (sym is))))
-          (λ slot. (let one : slot.0 ≡ j = one_place slot.0 j slot.1 inside (let e = found.1 in omega (arith, slot.2, e, is)) in slot.4 i below
+          (λ slot. (let one : slot.0 ≡ j = one_place slot.0 j slot.1 inside (let e = found.1 in omega (arith, slot.2, e, is)) in slot.4 (subst told (sym one) of) i below
           ∙ ap (λ k. part_of (pages k) i) one))
           (gives.given place.0 place.1 found.0)
 
   -- So the map now stands for what the old one stood for, with the new pages for the homes.
-  pub now_stands : (h i : ℕ) → i < 8
+  pub now_stands : ((j : ℕ) → told j) → (h i : ℕ) → i < 8
       → staged (pool_stands m h (slot_by m now h) + i) ≡ sector_or pages (content (pool_stands m h (slot_by m was h) + i)) i (home_rank homes h)
-  now_stands h i below = here (home_rank homes h) refl (place_means (λ j. get_or homes j 0) h (length homes))
+  now_stands all h i below = here (home_rank homes h) refl (place_means (λ j. get_or homes j 0) h (length homes))
     where
       here : (o : Option ℕ) → home_rank homes h ≡ o → Means (λ j. get_or homes j 0) h (length homes) o
           → staged (pool_stands m h (slot_by m now h) + i) ≡ sector_or pages (content (pool_stands m h (slot_by m was h) + i)) i o
       here None is means = old_page m second was thin now homes content staged
           (λ body r less. ⊎_elim (λ same. inl same) (λ slot. inr (slot.0, slot.1, slot.2, slot.3)) (gives.given body r less)) gives.moved but h i is below
-      here (Some j) is means = new_page h j i below means.0 means.1
+      here (Some j) is means = new_page h j i (all j) below means.0 means.1

@@ -7,7 +7,7 @@ use Rattle.pool_journal.specs.Giving.{AreRising, GivesFirst}
 use Rattle.pool_journal.specs.{Blocks.{IsNotedMap}, Committing.{StagesCommit, IsPoolStaged, IsPoolNoted}, Maps.{entries_of}, Pools.{pool_entry, IsLooseSlot, IsLoose, IsPoolMap, IsSingle}, Room.{ChangesNext, MakesRoom, FillsSlots, slots_of}}
 use Rattle.pool_journal.specs.declared.{map.SlotMap.{SlotMap}, pool.PoolJournal.{PoolJournal}}
 use Rattle.sync_journal.proofs.{Causes.{told_on, device_failed, none_failed}, Runs.{and_no_write}}
-use Rattle.sync_journal.specs.{Runs.{RunsOnDevice}, Source.{Asks, HasCauses}, Steps.{WritesInto}, declared.{faults.CommitFault.{CommitFault, TheVariants.{Device}}, source.PageSource.{Ghosts as SourceGhosts}}}
+use Rattle.sync_journal.specs.{Runs.{RunsOnDevice}, Source.{Asks, HasCauses, IsTold}, Steps.{WritesInto}, declared.{faults.CommitFault.{CommitFault, TheVariants.{Device}}, source.PageSource.{Ghosts as SourceGhosts}}}
 
 pub changes_then : (a b c : PoolJournal) → ChangesNext a b → ChangesNext b c → ChangesNext a c
 changes_then a b c first second = record {
@@ -46,7 +46,7 @@ module _ {D S : Type 0} {g : Ghosts D} {s : SourceGhosts S} {homes : List ℕ} {
       → Asks s from left → HasCauses (g.failures old) (g.failures new) (s.failures from) (s.failures left) (Err fault) → StagesCommit g s homes was now old new from left r
   stage_told now new from left fault (Ok done) is stages asks causes = absurd is
   stage_told now new from left fault (Err e) is stages asks causes = record {
-    gives = λ keeps given. tt;
+    gives = λ keeps. tt;
     placed = tt;
     others = λ keeps. tt;
     homes_are = tt;
@@ -152,10 +152,10 @@ stage_ends {g} {s} {homes} {was} {old} one copied rooms two written {from} {left
     let noted : g.keeps_model new → (k : ℕ) → IsPoolMap was.sizes.blocks (not was.second) k ⊎ (g.content new k ≡ g.content written k)
     = λ keeps k. subst (λ (content : Image). IsPoolMap was.sizes.blocks (not was.second) k ⊎ (content k ≡ g.content written k)) (sym (syncs.same keeps)) ((map.run.touches (syncs.kept keeps)).content k) in
     record {
-      gives = λ keeps given. (
+      gives = λ keeps. (
         entries_of one.next,
         staged_gives was.sizes.blocks (entries_of was.map) (not was.second) one.next two.next homes (slots_of two) (g.content old) (g.content copied) (g.content written) (g.content new)
-            (thins keeps) (filled keeps) (noted keeps) fill.long fill.are fill.given (s.pages from) (fill.body (map.run.kept (syncs.kept keeps)) given),
+            (thins keeps) (filled keeps) (noted keeps) fill.long fill.are fill.given (IsTold s from left) (s.pages from) (fill.body (map.run.kept (syncs.kept keeps))),
       );
       others = λ keeps. staged_others was.sizes.blocks (entries_of was.map) (not was.second) one.next two.next homes (slots_of two) (g.content old) (g.content copied) (g.content written) (g.content new)
           (thins keeps) (filled keeps) (noted keeps) fill.long fill.are fill.given was.second (stages.run.touches keeps).content;

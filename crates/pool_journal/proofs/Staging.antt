@@ -25,13 +25,13 @@ later_thinned m was thin homes content copied staged same thins = record {
 }
 
 -- and the new pages stay where slots are
-pub later_held : (m : ℕ) (was : Bool → ℕ → ℕ) (second : Bool) (slots : List Slot) (n : ℕ) (pages : ℕ → List ℕ) (filled staged : Image) → length slots ≡ n → AreFree m was slots
-    → ((k : ℕ) → IsPoolMap m second k ⊎ (staged k ≡ filled k)) → HoldsSlots m slots n pages filled → HoldsSlots m slots n pages staged
-later_held m was second slots n pages filled staged long are same holds j i below small =
+pub later_held : (m : ℕ) (was : Bool → ℕ → ℕ) (second : Bool) (slots : List Slot) (n : ℕ) (told : ℕ → Type 0) (pages : ℕ → List ℕ) (filled staged : Image) → length slots ≡ n → AreFree m was slots
+    → ((k : ℕ) → IsPoolMap m second k ⊎ (staged k ≡ filled k)) → HoldsSlots m slots n told pages filled → HoldsSlots m slots n told pages staged
+later_held m was second slots n told pages filled staged long are same holds j i below is small =
     let slot = slot_at slots j in
     let inside = (are j (omega (arith, below, long))).0 in
     ⊎_elim (λ map. absurd (no_map m second slot.second slot.place (pool_slot m slot.second slot.place + i) inside (omega arith, omega (arith, small)) map))
-    (λ e. e ∙ holds j i below small) (same (pool_slot m slot.second slot.place + i))
+    (λ e. e ∙ holds j i below is small) (same (pool_slot m slot.second slot.place + i))
 
 -- no slot is given to a home past the last one
 pub given_most : (n : ℕ) (slots : List Slot) (homes : List ℕ) (old new : SlotMap) (most : ℕ) → GivesFirst n slots homes old new → length slots ≡ n
@@ -108,9 +108,9 @@ module _ (m : ℕ) (was : Bool → ℕ → ℕ) (second : Bool) (thin now : Slot
   no_others body r none = given.others body r (λ j below. none j (omega (arith, below, long)))
 
   -- the new pages stand there,
-  pub staged_gives : (pages : ℕ → List ℕ) → HoldsSlots m slots (length homes) pages filled → GivesHomes m was (entries_of thin) (entries_of now) homes pages content staged
-  staged_gives pages holds = gives_homes m was (entries_of thin) (entries_of now) homes content staged slots still long are to_homes no_others pages
-      (λ j i below small. later_held m was second slots (length homes) pages filled staged long are maps holds j i (omega (arith, below, long)) small)
+  pub staged_gives : (told : ℕ → Type 0) (pages : ℕ → List ℕ) → HoldsSlots m slots (length homes) told pages filled → GivesHomes m was (entries_of thin) (entries_of now) homes told pages content staged
+  staged_gives told pages holds = gives_homes m was (entries_of thin) (entries_of now) homes content staged slots still long are to_homes no_others told pages
+      (λ j i below is small. later_held m was second slots (length homes) told pages filled staged long are maps holds j i (omega (arith, below, long)) is small)
 
   -- and whatever was written to them, the other homes stand as they did.
   pub staged_others : (named : Bool) → ((k : ℕ) → IsLoose m named was k ⊎ (staged k ≡ content k)) → KeepsOthers m was (entries_of now) homes content staged

@@ -123,16 +123,16 @@ module _ (m : ℕ) (was thin now : Bool → ℕ → ℕ) (homes : List ℕ) (con
   gives_free body r below = ⊎_elim (λ slot. inr (slot.0, omega (arith, slot.1, long), to_home body r slot, was_free body r slot)) (λ none. inl (others body r none)) (is_given (length slots) slots body r)
 
   -- and hold their pages.
-  pub gives_homes : (pages : ℕ → List ℕ) → ((j i : ℕ) → j < length slots → i < 8 → staged (pool_slot m (slot_at slots j).second (slot_at slots j).place + i) ≡ part_of (pages j) i)
-      → GivesHomes m was thin now homes pages content staged
-  gives_homes pages holds = record {
+  pub gives_homes : (told : ℕ → Type 0) (pages : ℕ → List ℕ) → ((j i : ℕ) → j < length slots → told j → i < 8 → staged (pool_slot m (slot_at slots j).second (slot_at slots j).place + i) ≡ part_of (pages j) i)
+      → GivesHomes m was thin now homes told pages content staged
+  gives_homes told pages holds = record {
     given = λ body r below. ⊎_elim
         (λ slot. inr (
           slot.0,
           omega (arith, slot.1, long),
           to_home body r slot,
           was_free body r slot,
-          λ i low. ap (λ k. staged (pool_slot m body k + i)) slot.2 ∙ ap (λ b. staged (pool_slot m b (slot_at slots slot.0).place + i)) slot.3 ∙ holds slot.0 i slot.1 low,
+          λ is i low. ap (λ k. staged (pool_slot m body k + i)) slot.2 ∙ ap (λ b. staged (pool_slot m b (slot_at slots slot.0).place + i)) slot.3 ∙ holds slot.0 i slot.1 is low,
         ))
         (λ none. inl (others body r none))
         (is_given (length slots) slots body r);

@@ -19,10 +19,10 @@ pub record IsThinned (m : ℕ) (was thin : Bool → ℕ → ℕ) (homes : List �
       ⊎ ((slot_by m thin h ≡ None) × ((i : ℕ) → i < 8 → staged (pool_home m h + i) ≡ content (pool_stands m h (slot_by m was h) + i)))
 
 -- A map was, is thinned, and is now this, over what the device held and holds:
-pub record GivesHomes (m : ℕ) (was thin now : Bool → ℕ → ℕ) (homes : List ℕ) (pages : ℕ → List ℕ) (content staged : Image) : Type 0 where
-  -- each slot is given to what the thinned map gives it to, or that gives it to none and it is given to home j and holds page j;
+pub record GivesHomes (m : ℕ) (was thin now : Bool → ℕ → ℕ) (homes : List ℕ) (told : ℕ → Type 0) (pages : ℕ → List ℕ) (content staged : Image) : Type 0 where
+  -- each slot is given to what the thinned map gives it to, or that gives it to none and it is given to home j and holds page j, where that is told;
   pub given : (body : Bool) (r : ℕ) → r < 504 * m → (now body r ≡ thin body r)
-      ⊎ ((j : ℕ) × (j < length homes) × (now body r ≡ suc (get_or homes j 0)) × (thin body r ≡ 0) × ((i : ℕ) → i < 8
+      ⊎ ((j : ℕ) × (j < length homes) × (now body r ≡ suc (get_or homes j 0)) × (thin body r ≡ 0) × (told j → (i : ℕ) → i < 8
       → staged (pool_slot m body r + i) ≡ part_of (pages j) i))
   -- each home is given a slot,
   pub placed : (j : ℕ) → j < length homes → (body : Bool) × (r : ℕ) × (r < 504 * m) × (now body r ≡ suc (get_or homes j 0))

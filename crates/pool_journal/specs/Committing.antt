@@ -1,6 +1,6 @@
 -- What a commit over the journal of a pool comes to.
 use Rattle.std.specs.Prelude.{ℕ, ◌*◌, ◌<◌, ◌≤◌, ◌≡◌, ◌⊎◌, Bool, not, List, length, get_or, None, Result, OnOk, IsErrOf}
-use Rattle.disk_model.specs.{Moments.{AsksOnly}, Stop.{Image, NamesOnce}}
+use Rattle.disk_model.specs.{Moments.{AsksOnly}, Sectors.{part_of}, Stop.{Image, NamesOnce}}
 use Rattle.disk_model.specs.declared.sector_disk.SectorDisk.{Ghosts}
 use Rattle.pool_journal.specs.Blocks.{IsNotedMap}
 use Rattle.pool_journal.specs.Commit.{GivesHomes, KeepsOthers, TakesFree, IsDropped, IsTaken}
@@ -11,7 +11,7 @@ use Rattle.pool_journal.specs.Maps.{entries_of}
 use Rattle.pool_journal.specs.Pools.{pool, pool_entry, pool_standing, IsLoose, IsLooseSlot, IsPoolMap, IsSingle}
 use Rattle.pool_journal.specs.Room.{ChangesNext}
 use Rattle.pool_journal.specs.declared.pool.PoolJournal.{PoolJournal}
-use Rattle.sync_journal.specs.{Blocks.{LeavesInBlocks}, Committing.{CommitsOver, HomesStandOr}, Map.{home_rank}, Steps.{TakesPages}}
+use Rattle.sync_journal.specs.{Blocks.{LeavesInBlocks}, Committing.{CommitsOver, HomesStandOr}, Map.{home_rank}, Source.{IsTold}, Steps.{TakesPages}}
 use Rattle.sync_journal.specs.declared.faults.CommitFault.{CommitFault}
 use Rattle.sync_journal.specs.declared.faults.CommitFault.TheVariants.{Source}
 use Rattle.sync_journal.specs.declared.source.PageSource as Pages
@@ -43,8 +43,8 @@ PoolCommitsInBlocks g m second was P old new = LeavesInBlocks g (IsLoose m secon
 module _ {D S : Type 0} (g : Ghosts D) (s : Pages.Ghosts S) where
   -- All of a commit is written and synced, but the gate:
   pub record StagesCommit (homes : List ℕ) (was now : PoolJournal) (old new : D) (from left : S) (result : Result (Unit {0}) CommitFault) : Type 0 where
-    -- the next map gives slots that hold the new pages to the homes,
-    pub gives : g.keeps_model new → s.keeps_model left → OnOk result ((thin : Bool → ℕ → ℕ) × GivesHomes was.sizes.blocks (entries_of was.map) thin (entries_of now.next) homes (s.pages from) (g.content old) (g.content new))
+    -- the next map gives slots that hold the new pages, as far as these are told, to the homes,
+    pub gives : g.keeps_model new → OnOk result ((thin : Bool → ℕ → ℕ) × GivesHomes was.sizes.blocks (entries_of was.map) thin (entries_of now.next) homes (IsTold s from left) (s.pages from) (g.content old) (g.content new))
     -- which were free;
     pub placed : OnOk result (TakesFree was.sizes.blocks (entries_of was.map) (entries_of now.next))
     -- under it, whatever the source gives, each other home stands as it did;
@@ -74,7 +74,10 @@ module _ {D S : Type 0} (g : Ghosts D) (s : Pages.Ghosts S) where
     -- the device stands for the pages, all at once;
     pub puts : CommitsOver g s (pool was.sizes.blocks was.sizes.homes) (was.second, entries_of was.map) (not was.second, entries_of now.map) (was.second, entries_of was.map) homes old new from left result
     pub open puts use *
-    -- whatever the source gives, each other home stands as it did;
+    -- whatever the source gives else, the pages that it is sure of stand for their homes,
+    pub sure : g.keeps_model new → OnOk result ((j i : ℕ) → j < length homes → i < 8 → s.sure from j
+        → pool_standing was.sizes.blocks was.sizes.homes (g.content new) (get_or homes j 0) i ≡ part_of (s.pages from j) i)
+    -- and each other home stands as it did;
     pub others : g.keeps_model new → OnOk result ((h i : ℕ) → home_rank homes h ≡ None → i < 8
         → pool_standing was.sizes.blocks was.sizes.homes (g.content new) h i ≡ pool_standing was.sizes.blocks was.sizes.homes (g.content old) h i)
     -- a stop may even spoil whole blocks of 4,096 bytes;

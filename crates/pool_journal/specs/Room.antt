@@ -4,7 +4,7 @@ use Rattle.disk_model.specs.{Moments.{AsksOnly}, Stop.{NamesOnce}}
 use Rattle.disk_model.specs.declared.sector_disk.DiskFault.{DiskFault}
 use Rattle.disk_model.specs.declared.sector_disk.SectorDisk.{Ghosts}
 use Rattle.pool_journal.specs.Commit.{thinned, IsThinned, IsDropped}
-use Rattle.pool_journal.specs.Filling.{HoldsSlots, IsFilled}
+use Rattle.pool_journal.specs.Filling.{IsFilled, WritesSlots}
 use Rattle.pool_journal.specs.Giving.{AreApart, AreFree, GivesFirst}
 use Rattle.pool_journal.specs.Journal.{IsPoolJournal, live_count}
 use Rattle.pool_journal.specs.Maps.{entries_of}
@@ -13,7 +13,7 @@ use Rattle.pool_journal.specs.declared.pool.PoolJournal.{PoolJournal}
 use Rattle.pool_journal.specs.declared.slot.Slot.{Slot}
 use Rattle.sync_journal.specs.declared.faults.CommitFault.{CommitFault}
 use Rattle.sync_journal.specs.declared.source.PageSource as Pages
-use Rattle.sync_journal.specs.{Runs.{RunsOnDevice}, Steps.{FillsBody}}
+use Rattle.sync_journal.specs.Runs.{RunsOnDevice}
 
 -- But for its next map a journal is as it was:
 pub record ChangesNext (was now : PoolJournal) : Type 0 where
@@ -56,8 +56,7 @@ slots_of journal = journal.taken.slots.items
 -- Free slots are filled:
 pub record FillsSlots {D S : Type 0} (g : Ghosts D) (s : Pages.Ghosts S) (homes : List ℕ) (was now : PoolJournal) (old new : D) (from left : S) (result : Result (Unit {0}) CommitFault) : Type 0 where
   -- those that are listed, one for each home, hold the pages that the source gives, and no other sector is written or asked for;
-  pub fills : FillsBody g s (IsLooseSlot was.sizes.blocks (entries_of was.map)) (IsLooseSlot was.sizes.blocks (entries_of was.map))
-      (HoldsSlots was.sizes.blocks (slots_of now) (length homes) (s.pages from) (g.content new)) old new from left result
+  pub fills : WritesSlots g s was.sizes.blocks (slots_of now) (length homes) (IsLooseSlot was.sizes.blocks (entries_of was.map)) old new from left result
   pub open fills use *
   pub asks_slots : AsksOnly g (IsFilled was.sizes.blocks (slots_of now) (length homes)) old new
   -- the next map gives them to the homes,

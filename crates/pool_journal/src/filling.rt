@@ -1,8 +1,7 @@
 //! The pages of a commit, written to free slots.
 ghost use Rattle.std.specs.Prelude.{◌<◌, ℕ, length};
-ghost use Rattle.pool_journal.specs.Filling.{AreSlots, IsFilled, HoldsSlots};
+ghost use Rattle.pool_journal.specs.Filling.{AreSlots, IsFilled, WritesSlots};
 ghost use Rattle.pool_journal.specs.Sizes.{HasPool};
-ghost use Rattle.sync_journal.specs.Steps.{FillsBody};
 
 use crate::sizes::PoolSizes;
 use crate::slot::Slot;
@@ -19,8 +18,8 @@ pub(crate) fn write_pages<D: SectorDisk, S: PageSource>(
     requires pool { HasPool D.SectorDisk sizes disk.old }
     requires slots { AreSlots sizes.blocks slots.now }
     requires gives { (i : ℕ) → i < length slots.now → S.gives source.old i }
-    ensures { FillsBody D.SectorDisk S.PageSource (IsFilled sizes.blocks slots.now (length slots.now)) (IsFilled sizes.blocks slots.now (length slots.now))
-        (HoldsSlots sizes.blocks slots.now (length slots.now) (S.pages source.old) (D.content disk.new)) disk.old disk.new source.old source.new result }
+    ensures { WritesSlots D.SectorDisk S.PageSource sizes.blocks slots.now (length slots.now) (IsFilled sizes.blocks slots.now (length slots.now))
+        disk.old disk.new source.old source.new result }
 {
     let mut page = [0; 4096];
     for j in 0..slots.len() {

@@ -29,6 +29,8 @@ impl PageSource for Filled {
 
     ghost keeps_model = { λ _. Unit {0} };
 
+    ghost sure = { λ _ _. Unit {0} };
+
     ghost follows = { λ _ _. Unit {0} };
 
     ghost stays = { λ _. tt };

@@ -66,6 +66,8 @@ impl PageSource for Filled<'_> {
 
     ghost keeps_model = { λ _. Unit {0} };
 
+    ghost sure = { λ _ _. Unit {0} };
+
     ghost follows = { λ _ _. Unit {0} };
 
     ghost stays = { λ _. tt };

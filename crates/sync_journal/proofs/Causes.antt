@@ -5,7 +5,7 @@ use Rattle.disk_model.specs.declared.sector_disk.SectorDisk.{Ghosts as DiskGhost
 
 -- nothing was asked for
 pub asks_nothing : {S : Type 0} (s : Ghosts S) (source : S) → s.follows source source → Asks s source source
-asks_nothing s source stays = record { kept = λ h. h; later = omega arith; same = λ h k. refl; still = λ k gives. gives; follows = stays }
+asks_nothing s source stays = record { kept = λ h. h; later = omega arith; same = λ h k. refl; sure = λ k is. (is, refl); still = λ k gives. gives; follows = stays }
 
 -- which fault it is
 pub told_was : {S T E : Type 0} (fault of : E) (result : Result T E) → IsErrAnd result (λ e. e ≡ fault) → IsErrOf result of → ◌≡◌ {A = Result S E} (Err fault) (Err of)

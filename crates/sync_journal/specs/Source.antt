@@ -1,5 +1,5 @@
 -- What a commit does to its source, and when it tells which fault.
-use Rattle.std.specs.Prelude.{ℕ, ◌<◌, ◌≤◌, ◌≡◌, List, length, Result, OnOk, IsErrOf}
+use Rattle.std.specs.Prelude.{ℕ, ◌<◌, ◌≤◌, ◌≡◌, ◌⊎◌, List, length, Result, OnOk, IsErrOf}
 use Rattle.sync_journal.specs.Map.{AreHomes}
 use Rattle.sync_journal.specs.declared.faults.CommitFault.{CommitFault}
 use Rattle.sync_journal.specs.declared.faults.CommitFault.TheVariants.{Source, Device}
@@ -10,8 +10,13 @@ pub record Asks {S : Type 0} (g : Ghosts S) (old new : S) : Type 0 where
   pub kept : g.keeps_model new → g.keeps_model old
   pub later : g.failures old ≤ g.failures new
   pub same : g.keeps_model new → (k : ℕ) → g.pages new k ≡ g.pages old k
+  pub sure : (k : ℕ) → g.sure old k → g.sure new k × (g.pages new k ≡ g.pages old k)
   pub still : (k : ℕ) → g.gives old k → g.gives new k
   pub follows : g.follows old new
+
+-- What a source gives for page k, over some calls, is that page: what it stands on kept its model, or it is sure of it.
+abbrev pub IsTold : {S : Type 0} → Ghosts S → S → S → ℕ → Type 0
+IsTold g old new k = g.keeps_model new ⊎ g.sure old k
 
 -- Pages are given for homes: each is one of so many and named once, and the source gives a page for it.
 pub record GivesFor {S : Type 0} (g : Ghosts S) (limit : ℕ) (homes : List ℕ) (source : S) : Type 0 where

@@ -9,7 +9,7 @@ pub struct SourceFault;
 /// Gives pages of 4,096 bytes by their place in a list.
 ///
 /// A source that reads a device may fail, and gives the right bytes only as long as that device keeps the disk
-/// model: so what it gives is said under `keeps_model`.
+/// model: so what it gives is said under `keeps_model`, but for the pages that it is sure of.
 pub trait PageSource {
     /// The bytes of each page. Calls leave them as they are.
     ghost pages: { Self → ℕ → List ℕ };
@@ -23,6 +23,9 @@ pub trait PageSource {
     /// What the source stands on has kept its model so far. A source of plain memory always does.
     ghost keeps_model: { Self → Type 0 };
 
+    /// A page that it gives as it is, whatever the source stands on does: one of plain memory, say.
+    ghost sure: { Self → ℕ → Type 0 };
+
     /// The second may be what calls of `page` made of the first: what else a caller wants to know of the source.
     ghost follows: { Self → Self → Type 0 };
 
@@ -32,8 +35,8 @@ pub trait PageSource {
         ensures kept { keeps_model self.new → keeps_model self.old }
         ensures cause { HasCause (failures self.old) (failures self.new) result }
         ensures given { keeps_model self.new → OnOk result (to.new ≡ pages self.old i) }
-        ensures same { keeps_model self.new → (k : ℕ) → pages self.new k ≡ pages self.old k }
-        ensures still { (k : ℕ) → gives self.old k → gives self.new k }
+        ensures sure { (sure self.old i → OnOk result (to.new ≡ pages self.old i)) × ((k : ℕ) → sure self.old k → sure self.new k × (pages self.new k ≡ pages self.old k)) }
+        ensures same { (k : ℕ) → (gives self.old k → gives self.new k) × (keeps_model self.new → pages self.new k ≡ pages self.old k) }
         ensures follows { follows self.old self.new };
 
     /// No call at all.

@@ -39,6 +39,8 @@ impl PageSource for LentPages<'_> {
 
     ghost keeps_model = { λ _. Unit {0} };
 
+    ghost sure = { λ _ _. Unit {0} };
+
     ghost follows = { λ old new. new ≡ old };
 
     fn page(&mut self, i: usize, to: &mut [u8; 4096]) -> Result<(), SourceFault> {

@@ -1,9 +1,9 @@
-use Rattle.std.proofs.Common.{◌≡◌, ◌+◌, length, refl, sym, ap, subst, ◌∙◌, arith, rules}
+use Rattle.std.proofs.Common.{◌≡◌, ◌+◌, length, refl, sym, ap, subst, ◌∙◌, ⊎_elim, inl, inr, arith, rules}
 use Rattle.disk_model.proofs.Naming.{once_wider}
 use Rattle.disk_model.specs.Stop.{Names}
 use Rattle.pool_journal.proofs.{Filled.{once_more, run_more, held_more}}
 use Rattle.pool_journal.specs.{Filling.{IsFilled, filled_at}}
-use Rattle.sync_journal.{proofs.Causes.{source_failed, device_failed, none_failed}, specs.{Layout.{IsPageSector}, Runs.{RunsOnDevice}, Source.{Asks}}}
+use Rattle.sync_journal.{proofs.Causes.{source_failed, device_failed, none_failed}, specs.{Layout.{IsPageSector}, Runs.{RunsOnDevice}, Source.{Asks, IsTold}}}
 use Rattle.pool_journal.proofs.filling.write_pages.Goals as goal
 
 pub returns-in_err-page : goal.returns-in_err-page
@@ -67,12 +67,15 @@ loop-j-preserved g c =
     let new = c.write_page.new.disk in
     let at : c.slot.result ≡ filled_at m slots j = c.slot.ensures in
     let run : RunsOnDevice d (IsPageSector (filled_at m slots j)) mid new = subst (λ k. RunsOnDevice d (IsPageSector k) mid new) at w.run in
-    let asks : Asks g.S.PageSource c.args.source.now c.page.new.self = search rules in (
+    let asks : Asks g.S.PageSource c.args.source.now c.page.new.self = search rules in
+    let gives = c.in_ok-page.ensures in (
       search rules,
       run_more m slots c.requires.slots d j old mid new below run inv.1,
       asks,
-      λ keeps gives. held_more m slots c.requires.slots d j old mid new below run (g.S.PageSource.pages c.args.source.now) c.page.new.to
-          (c.in_ok-page.ensures.given gives ∙ inv.2.same (c.page.ensures.kept gives) j) keeps (inv.3 (w.run.kept keeps) (c.page.ensures.kept gives))
+      λ keeps. held_more m slots c.requires.slots d j old mid new below run (IsTold g.S.PageSource c.args.source.now c.loop-j.source) (IsTold g.S.PageSource c.args.source.now c.page.new.self)
+          (λ k. ⊎_elim (λ kept. inl (c.page.ensures.kept kept)) (λ sure. inr sure)) (g.S.PageSource.pages c.args.source.now) c.page.new.to
+          (⊎_elim (λ kept. gives.given kept ∙ inv.2.same (c.page.ensures.kept kept) j) (λ sure. (let still = inv.2.sure j sure in gives.sure.0 still.0 ∙ still.1)))
+          keeps (inv.3 (w.run.kept keeps))
           (λ i small. ap (λ k. d.content new (k + i)) (sym at) ∙ c.in_ok-write_page.ensures.written keeps i small),
       c.in_ok-write_page.ensures.calm ∙ inv.4,
       c.in_ok-page.ensures.cause.calm ∙ inv.5,

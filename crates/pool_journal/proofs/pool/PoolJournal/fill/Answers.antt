@@ -1,9 +1,9 @@
-use Rattle.std.proofs.Common.{◌∙◌, List, length, refl, sym, ap, subst, arith, rules}
+use Rattle.std.proofs.Common.{◌∙◌, ℕ, List, length, refl, sym, ap, subst, arith, rules}
 use Rattle.disk_model.proofs.{Moments.{asks_once}, Naming.{once_wider}}
 use Rattle.disk_model.specs.Stop.{NamesOnce}
 use Rattle.pool_journal.proofs.{Free.{free_most}, Room.{are_slots, filled_loose, least}}
 use Rattle.pool_journal.specs.{Filling.{AreSlots, IsFilled, HoldsSlots}, Giving.{AreApart, GivesFirst}, Maps.{entries_of}, Pools.{IsLooseSlot}, declared.slot.Slot.{Slot}}
-use Rattle.sync_journal.{proofs.{Causes.{none_failed, told_on}, Runs.{of_more}}, specs.{Runs.{RunsOnDevice}}}
+use Rattle.sync_journal.{proofs.{Causes.{none_failed, told_on}, Runs.{of_more}}, specs.{Runs.{RunsOnDevice}, Source.{IsTold}}}
 use Rattle.pool_journal.proofs.pool.PoolJournal.fill.Goals as goal
 
 pub list-requires-clause-room : goal.list-requires-clause-room
@@ -90,13 +90,14 @@ returns g c =
     let new = c.write_pages.new.disk in
     let value = c.deref.ensures.value in
     let w = c.in_ok-write_pages.ensures in
+    let told : ℕ → Type 0 = IsTold s c.args.source.now c.write_pages.new.source in
     let loose = filled_loose m was slots (c.list.ensures.free m fits) in
     let long = least _ _ _ (c.list.ensures.long m fits) c.requires.few in
     let once = subst (λ xs. NamesOnce (IsFilled m xs (length xs)) (d.asked old) (d.asked new)) value w.once in
     record {
       fills = record {
-        body = λ keeps given. subst (λ k. HoldsSlots m slots k (s.pages c.args.source.now) (d.content new)) long
-            (subst (λ xs. HoldsSlots m xs (length xs) (s.pages c.args.source.now) (d.content new)) value (w.body keeps given));
+        body = λ keeps. subst (λ k. HoldsSlots m slots k told (s.pages c.args.source.now) (d.content new)) long
+            (subst (λ xs. HoldsSlots m xs (length xs) told (s.pages c.args.source.now) (d.content new)) value (w.body keeps));
         once = once_wider (IsFilled m slots (length slots)) (IsLooseSlot m was) (d.asked old) (d.asked new) loose once;
         takes = record {
           run = of_more d (IsFilled m slots (length slots)) (IsLooseSlot m was) old new loose (subst (λ xs. RunsOnDevice d (IsFilled m xs (length xs)) old new) value w.run);
