@@ -18,6 +18,12 @@ use Rattle.pool_store.specs.{Files.{StandsFor, StandsAs, info_of, page_of}, Plac
 use Rattle.pool_store.specs.{Store.{info_by, IsDirectoryOn}, declared.{directory.Directory.{Directory}, room.Place.{Place}}}
 use Rattle.sync_journal.{proofs.Images.{Means, place_means}, specs.{Commit.{changed, sector_or}, Layouts.{IsKept, StandsForPages}, Map.{home_rank}}}
 
+-- the first pages that go into slots are those of the directory, whatever a source gives
+pub late_front : (directory : Directory) (changes : List Change) (fresh list : List FilePage) (front : List (List ℕ)) (places : List Place) (put : ℕ) (given : ℕ → List ℕ) (j : ℕ)
+    → j < length front → late_page directory changes fresh list front places put given j ≡ get_or front j []
+late_front directory changes fresh list front places put given j below =
+    cond-true (nat_lt j (length front)) (get_or front j []) (cut_given directory changes fresh list given (put + index_at places (j - length front))) (grind (arith, below, nat_tests))
+
 module _ (n : ℕ) (directory : Directory) (on : IsDirectoryOn n directory) (changes : List Change) (are : AreFileChanges n directory changes)
     (m sectors : ℕ) (old : Image) (said : AreSaid directory.pages (pool_standing m n old) directory.entries.items) where
   abbrev infos : ℕ → Option FileInfo
@@ -57,6 +63,10 @@ module _ (n : ℕ) (directory : Directory) (on : IsDirectoryOn n directory) (cha
   page_stood : (f k h : ℕ) → HasHome entries f k h → page_of stood k (entry_by directory.pages stood f) ≡ padded_page (inside_of (infos f) k) (joined (stood h) 8)
   page_stood f k h has = ap (page_of stood k) (in_memory f) ∙ page_with_home stood k h (entry_in entries f) (home_has entries f k h has)
 
+  -- and a home where the parts of a page stand has that page
+  in_parts : (stands : ℕ → ℕ → List ℕ) (h : ℕ) (page : List ℕ) → ((i : ℕ) → i < 8 → stands h i ≡ part_of page i) → length page ≡ 4096 → joined (stands h) 8 ≡ page
+  in_parts stands h page each whole = joined-same 8 (stands h) (part_of page) each ∙ joined_parts page whole
+
   -- An image in which nothing but the homes of new pages stands otherwise:
   module _ (image : Image) (others : LeavesOtherHomes m n (IsNewHome directory changes) old image) where
     abbrev still : ℕ → ℕ → List ℕ
@@ -95,8 +105,7 @@ module _ (n : ℕ) (directory : Directory) (on : IsDirectoryOn n directory) (cha
       (ends : (f : ℕ) (was now : FileInfo) → info_by directory f ≡ Some was → files_after (info_by directory) changes f ≡ Some now → was.length < now.length → (was.length % 4096 ≡ 0 → ⊥) → StandsInList list f (was.length / 4096))
       (put : ℕ) (low : put ≤ length fresh) (places : List Place) (homes : List ℕ) (placed : ArePlacedThen directory changes fresh list put places homes)
       (front : List (List ℕ)) (fronts : AreChangedPages directory changes front)
-      (given : ℕ → List ℕ) (mid : Image) (beside : LeavesOtherHomes m n (IsNewHome directory changes) old mid)
-      (stand : NewPagesStand m n directory changes fresh given put mid) (blank : OthersAreBlank m n directory changes fresh (length fresh) mid) where
+      (given : ℕ → List ℕ) (mid : Image) (beside : LeavesOtherHomes m n (IsNewHome directory changes) old mid) where
     abbrev late : List ℕ
     late = changed_pages changes directory.pages ++ homes
 
@@ -152,9 +161,7 @@ module _ (n : ℕ) (directory : Directory) (on : IsDirectoryOn n directory) (cha
 
     -- the pages that go into slots
     front_page : (j : ℕ) → j < count → into_slots j ≡ get_or front j []
-    front_page j below =
-        let inside : nat_lt j (length front) ≡ true = grind (arith, below, fronts.long, nat_tests) in
-        cond-true (nat_lt j (length front)) (get_or front j []) (cut_given directory changes fresh list given (put + index_at places (j - length front))) inside
+    front_page j below = late_front directory changes fresh list front places put given j (omega (arith, below, fronts.long))
 
     file_page : (j : ℕ) → into_slots (count + j) ≡ cut_given directory changes fresh list given (put + index_at places j)
     file_page j =
@@ -186,8 +193,54 @@ module _ (n : ℕ) (directory : Directory) (on : IsDirectoryOn n directory) (cha
     not_new : (f k : ℕ) → k < file_page_count (infos f) → IsNewPage infos changes f k → ⊥
     not_new f k there is = omega (arith, there, is.0)
 
+    -- An image where the changed pages of the directory stand for their homes, and each other page of it as it did:
+    module _ (image : Image)
+        (placed_in_front : (h j i : ℕ) → home_rank (changed_pages changes directory.pages ++ homes) h ≡ Some j → j < length (changed_pages changes directory.pages)
+        → get_or (changed_pages changes directory.pages) j 0 ≡ h → i < 8 → pool_standing m n image h i ≡ part_of (get_or front j []) i)
+        (left_in_front : (h i : ℕ) → home_rank (changed_pages changes directory.pages ++ homes) h ≡ None → h < directory.pages → i < 8 → pool_standing m n image h i ≡ pool_standing m n old h i) where
+      abbrev standing : ℕ → ℕ → List ℕ
+      standing = pool_standing m n image
+
+      -- The directory says the entries after the changes: in a page of it that is changed,
+      changed_said : (f : ℕ) → f < 16 * directory.pages → is_changed changes (f / 16) ≡ true → SaysEntry (entry_standing standing f) (entry_in now_entries f)
+      changed_said f below is =
+          let inside : f / 16 < directory.pages = omega (arith, below) in
+          let found = changed_found changes directory.pages (f / 16) inside is in
+          ⊎_elim
+          (λ (none : IsBeside (f / 16)). absurd (none.1 (in_front (changed_pages changes directory.pages) homes (f / 16) found)))
+          (⊎_elim
+          (λ (at : IsFront (f / 16)).
+          let small : at.0 < length front = (let less = at.2 in omega (arith, less, fronts.long)) in
+          let page = fronts.each at.0 small in
+          let stands : joined (standing (f / 16)) 8 ≡ get_or front at.0 [] = in_parts standing (f / 16) (get_or front at.0 []) (λ i within. placed_in_front (f / 16) at.0 i at.1 at.2 at.3 within) page.size in
+          let number : 16 * get_or (changed_pages changes directory.pages) at.0 0 + f % 16 ≡ f = (let home = at.3 in omega (arith, home)) in
+          let place : f % 16 < 16 = omega arith in
+          subst (λ (bytes : List ℕ). SaysEntry (entry_bytes bytes (f % 16)) (entry_in now_entries f)) (sym stands)
+          (subst (λ (g : ℕ). SaysEntry (entry_bytes (get_or front at.0 []) (f % 16)) (entry_in now_entries g)) number (page.says (f % 16) place)))
+          (λ (at : IsFilePage (f / 16)). (let from = file_behind (f / 16) at in absurd (omega (arith, inside, from)))))
+          (where_is (f / 16))
+
+      -- and in one that is as before, where no change touches them
+      same_said : (f : ℕ) → f < 16 * directory.pages → is_changed changes (f / 16) ≡ false → SaysEntry (entry_standing standing f) (entry_in now_entries f)
+      same_said f below same =
+          let inside : f / 16 < directory.pages = omega (arith, below) in
+          ⊎_elim
+          (λ (none : IsBeside (f / 16)).
+          let bytes : entry_standing standing f ≡ entry_standing stood f =
+          ap (λ (page : List ℕ). entry_bytes page (f % 16)) (joined-same 8 (standing (f / 16)) (stood (f / 16)) (λ i small. left_in_front (f / 16) i none.0 inside small)) in
+          let entry : entry_in now_entries f ≡ entry_in entries f = entry_later n directory on changes are f ∙ ap (λ (c : Option Change). entry_then c (entry_in entries f)) (unchanged changes f same) in
+          subst (λ (b : List ℕ). SaysEntry b (entry_in now_entries f)) (sym bytes) (subst (SaysEntry (entry_standing stood f)) (sym entry) (said f below)))
+          (⊎_elim
+          (λ (at : IsFront (f / 16)). absurd (true≢false (sym (are_changed changes directory.pages at.0 at.2).1 ∙ ap (is_changed changes) at.3 ∙ same)))
+          (λ (at : IsFilePage (f / 16)). (let from = file_behind (f / 16) at in absurd (omega (arith, inside, from)))))
+          (where_is (f / 16))
+
+      pub says_then : AreSaid directory.pages (pool_standing m n image) (entries_then directory changes)
+      says_then f below = ⊎_elim (changed_said f below) (same_said f below) (cases_Bool (is_changed changes (f / 16)))
+
     -- An image that stands for these:
-    module _ (image : Image) (kept : IsKept (pool m n) sectors mid (StandsForPages (pool m n) After) image) where
+    module _ (stand : NewPagesStand m n directory changes fresh given put mid) (blank : OthersAreBlank m n directory changes fresh (length fresh) mid)
+        (image : Image) (kept : IsKept (pool m n) sectors mid (StandsForPages (pool m n) After) image) where
       abbrev left : ℕ → ℕ → List ℕ
       left = pool_standing m n image
 
@@ -200,48 +253,13 @@ module _ (n : ℕ) (directory : Directory) (on : IsDirectoryOn n directory) (cha
       as_before h at other i small = left_by h i None small at.0 ∙ beside.stands h i other small
 
       -- otherwise it is the page that stands there
-      in_parts : (h : ℕ) (page : List ℕ) → ((i : ℕ) → i < 8 → left h i ≡ part_of page i) → length page ≡ 4096 → joined (left h) 8 ≡ page
-      in_parts h page each whole = joined-same 8 (left h) (part_of page) each ∙ joined_parts page whole
-
       in_slot : (h j : ℕ) (page : List ℕ) → home_rank late h ≡ Some j → into_slots j ≡ page → length page ≡ 4096 → joined (left h) 8 ≡ page
-      in_slot h j page at is whole = in_parts h page (λ i small. left_by h i (Some j) small at ∙ ap (λ (bytes : List ℕ). part_of bytes i) is) whole
+      in_slot h j page at is whole = in_parts left h page (λ i small. left_by h i (Some j) small at ∙ ap (λ (bytes : List ℕ). part_of bytes i) is) whole
 
-      -- The directory says the entries after the changes: in a page of it that is changed,
-      changed_said : (f : ℕ) → f < 16 * directory.pages → is_changed changes (f / 16) ≡ true → SaysEntry (entry_standing left f) (entry_in now_entries f)
-      changed_said f below is =
-          let inside : f / 16 < directory.pages = omega (arith, below) in
-          let found = changed_found changes directory.pages (f / 16) inside is in
-          ⊎_elim
-          (λ (none : IsBeside (f / 16)). absurd (none.1 (in_front (changed_pages changes directory.pages) homes (f / 16) found)))
-          (⊎_elim
-          (λ (at : IsFront (f / 16)).
-          let small : at.0 < length front = (let less = at.2 in omega (arith, less, fronts.long)) in
-          let page = fronts.each at.0 small in
-          let stands : joined (left (f / 16)) 8 ≡ get_or front at.0 [] = in_slot (f / 16) at.0 (get_or front at.0 []) at.1 (front_page at.0 at.2) page.size in
-          let number : 16 * get_or (changed_pages changes directory.pages) at.0 0 + f % 16 ≡ f = (let home = at.3 in omega (arith, home)) in
-          let place : f % 16 < 16 = omega arith in
-          subst (λ (bytes : List ℕ). SaysEntry (entry_bytes bytes (f % 16)) (entry_in now_entries f)) (sym stands)
-          (subst (λ (g : ℕ). SaysEntry (entry_bytes (get_or front at.0 []) (f % 16)) (entry_in now_entries g)) number (page.says (f % 16) place)))
-          (λ (at : IsFilePage (f / 16)). (let from = file_behind (f / 16) at in absurd (omega (arith, inside, from)))))
-          (where_is (f / 16))
-
-      -- and in one that is as before, where no change touches them
-      same_said : (f : ℕ) → f < 16 * directory.pages → is_changed changes (f / 16) ≡ false → SaysEntry (entry_standing left f) (entry_in now_entries f)
-      same_said f below same =
-          let inside : f / 16 < directory.pages = omega (arith, below) in
-          ⊎_elim
-          (λ (none : IsBeside (f / 16)).
-          let bytes : entry_standing left f ≡ entry_standing stood f =
-          ap (λ (page : List ℕ). entry_bytes page (f % 16)) (joined-same 8 (left (f / 16)) (stood (f / 16)) (as_before (f / 16) none (no_new_in_front (f / 16) inside))) in
-          let entry : entry_in now_entries f ≡ entry_in entries f = entry_later n directory on changes are f ∙ ap (λ (c : Option Change). entry_then c (entry_in entries f)) (unchanged changes f same) in
-          subst (λ (b : List ℕ). SaysEntry b (entry_in now_entries f)) (sym bytes) (subst (SaysEntry (entry_standing stood f)) (sym entry) (said f below)))
-          (⊎_elim
-          (λ (at : IsFront (f / 16)). absurd (true≢false (sym (are_changed changes directory.pages at.0 at.2).1 ∙ ap (is_changed changes) at.3 ∙ same)))
-          (λ (at : IsFilePage (f / 16)). (let from = file_behind (f / 16) at in absurd (omega (arith, inside, from)))))
-          (where_is (f / 16))
-
-      pub said_then : AreSaid directory.pages left now_entries
-      said_then f below = ⊎_elim (changed_said f below) (same_said f below) (cases_Bool (is_changed changes (f / 16)))
+      -- the directory says the entries after the changes
+      said_then : AreSaid directory.pages left now_entries
+      said_then = says_then image (λ h j i at below is small. left_by h i (Some j) small at ∙ ap (λ (bytes : List ℕ). part_of bytes i) (front_page j below))
+          (λ h i none inside small. left_by h i None small none ∙ beside.stands h i (no_new_in_front h inside) small)
 
       entry_now : (f : ℕ) → entry_by directory.pages left f ≡ entry_in now_entries f
       entry_now f = entry_stood directory.pages left now_entries are.may.size said_then f
@@ -333,7 +351,7 @@ module _ (n : ℕ) (directory : Directory) (on : IsDirectoryOn n directory) (cha
             let h : ℕ = new_home directory changes fresh i in
             let bytes : cut_new directory changes fresh given i ≡ padded_page (inside_of (later f) k) (given i) = ap (λ (o : Option FilePage). padded_page (inside_then directory changes o) (given i)) is in
             let whole : length (cut_new directory changes fresh given i) ≡ 4096 = ap length bytes ∙ length-trimmed (inside_of (later f) k) (given i) (inside_small (later f) k) in
-            page_given f k h (given i) has (in_parts h (cut_new directory changes fresh given i) (λ j small. left_by h j None small at.0 ∙ stand i j below small) whole ∙ bytes) b.0 b.1
+            page_given f k h (given i) has (in_parts left h (cut_new directory changes fresh given i) (λ j small. left_by h j None small at.0 ∙ stand i j below small) whole ∙ bytes) b.0 b.1
             ∙ sym (becomes.added i (record { file = f; page = k }) is)
 
         -- a page with a home that is there then, and in no slot, or in one
@@ -399,11 +417,12 @@ module _ (n : ℕ) (directory : Directory) (on : IsDirectoryOn n directory) (cha
         }
 
     -- the files are those of after
-    pub stands_after : (image : Image) → IsKept (pool m n) sectors mid (StandsForPages (pool m n) After) image
+    pub stands_after : NewPagesStand m n directory changes fresh given put mid → OthersAreBlank m n directory changes fresh (length fresh) mid
+        → (image : Image) → IsKept (pool m n) sectors mid (StandsForPages (pool m n) After) image
         → (files : ℕ → Option FileInfo) (before after : ℕ → ℕ → List ℕ) → StandsFor (files_in_pool m directory.pages n) sectors files before old
         → ChangesFiles files changes fresh list given before after → StandsFor (files_in_pool m directory.pages n) sectors (files_after files changes) after image
-    stands_after image kept files before after was becomes =
+    stands_after stand blank image kept files before after was becomes =
         let same : infos ≡ files = λ t f. files_are files before was f t in
         let here : ChangesFiles infos changes fresh list given before after = subst (λ (g : ℕ → Option FileInfo). ChangesFiles g changes fresh list given before after) (sym same) becomes in
         let was_here : StandsFor (files_in_pool m directory.pages n) sectors infos before old = subst (λ (g : ℕ → Option FileInfo). StandsFor (files_in_pool m directory.pages n) sectors g before old) (sym same) was in
-        subst (λ (g : ℕ → Option FileInfo). StandsFor (files_in_pool m directory.pages n) sectors (files_after g changes) after image) same (stands_then image kept before after was_here here)
+        subst (λ (g : ℕ → Option FileInfo). StandsFor (files_in_pool m directory.pages n) sectors (files_after g changes) after image) same (stands_then stand blank image kept before after was_here here)

@@ -1,22 +1,22 @@
 -- A commit of changes: new pages where they are to stand, and then what goes into slots.
-use Rattle.std.proofs.Common.{◌≡◌, ◌⊎◌, ◌≤◌, ◌<◌, ◌+◌, ◌-◌, ◌*◌, ◌++◌, ◌∷◌, [], ℕ, zero, suc, Bool, true, false, List, Option, Some, Result, Ok, Err, OnOk, IsErr, IsErrAnd, length, map, get_or, vec_capacity, refl, sym, ap, subst, ◌∙◌, ⊎_elim, inl, inr, arith, if◌then◌else◌}
-use Rattle.std.proofs.lemmas.{Bool.{and_right, cases_Bool, cases_lt, cond-true, cond-false, lt-leb, ltb-false}, List.{length-append}, Option.{slice_get_within}, Result.{on_ok_weaker}}
+use Rattle.std.proofs.Common.{◌≡◌, ◌⊎◌, ◌≤◌, ◌<◌, ◌+◌, ◌-◌, ◌*◌, ◌&&◌, ◌++◌, ◌∷◌, [], ℕ, zero, suc, Bool, true, false, List, Option, Some, None, Result, Ok, Err, OnOk, IsErr, IsErrAnd, IsErrOf, length, map, get_or, vec_capacity, refl, sym, ap, subst, ◌∙◌, ⊎_elim, inl, inr, arith, if◌then◌else◌}
+use Rattle.std.proofs.lemmas.{Bool.{cases_Bool, cond-true, le-leb, ltb-false}, List.{get_or_append_left, length-append}, Option.{slice_get_within}, Result.{on_ok_weaker}}
 use Rattle.std.specs.{List.Sorted.{IsPermutation, IsNonDecreasingBy}, Prelude.{nat_le}}
 use Rattle.vm_types.specs.declared.{file.FileInfo.{FileInfo}, file.FilePage.{FilePage}}
-use Rattle.disk_model.{proofs.Moments.{asks_then, asks_wider, joined, then, weaker, wider}, specs.{Moments.{AsksOnly, LeavesNow, LeavesOnly, Touches}, Stop.{Image}, declared.sector_disk.SectorDisk.{Ghosts}}}
+use Rattle.disk_model.{proofs.Moments.{asks_then, asks_wider, holds_now, joined, then, weaker, wider}, specs.{Moments.{AsksOnly, LeavesNow, LeavesOnly, Touches}, Sectors.{part_of}, Stop.{Image, MayLeave}, declared.sector_disk.SectorDisk.{Ghosts}}}
 use Rattle.directories.{proofs.Owned.{gives_homes}, specs.{Kinds.{IsDirectorySize, IsKind}, declared.entry.Entry.{Entry}}}
 use Rattle.file_store.{proofs.Reading.{has_content}, specs.Asking.{asks_more}}
 use Rattle.growth.specs.declared.changes.Change.{Change}
-use Rattle.pool_growth.proofs.{After.{said_then, stands_after, stands_before}, Directory.{are_changed}, Numbered.{all_fresh}, Ordering.{are_placed_then, ArePlacedThen}, Slotted.{both_rise, each_of_both, late_staged}}
-use Rattle.pool_growth.specs.{Asked.{changed_pages, entries_then, is_changed, AreFileChanges, AreKeptPages, AreNewPages}, Commit.{ChangesInBlocks, CommitsChanges, IsChangeAsked, IsChangedSector, StandsForOneOf}, Files.{added_count, files_after, ChangesFiles}, Front.{AreChangedPages}, Late.{take_slots, given_homes, given_places, late_homes, late_page, put_count, slot_count, IsGiven}, declared.front.ChangeRoom.{ChangeRoom}}
+use Rattle.pool_growth.proofs.{After.{late_front, says_then, stands_after, stands_before}, Directory.{are_changed}, New.{front_not_new}, Numbered.{all_fresh}, Ordering.{are_placed_then, ArePlacedThen}, Settled.{is_error_of, ready_once_synced, settles}, Slotted.{both_rise, each_of_both, late_staged}}
+use Rattle.pool_growth.specs.{Asked.{changed_pages, entries_then, is_changed, AreFileChanges, AreKeptPages, AreNewPages}, Commit.{ChangesInBlocks, CommitsPutting, IsChangeAsked, IsChangedSector, StandsForOneOf}, Files.{added_count, files_after, ChangesFiles}, Front.{AreChangedPages}, Late.{take_slots, given_places, late_homes, late_page, put_count, slot_count, HasSlotsForAll, IsGiven, MayPut}, declared.front.ChangeRoom.{ChangeRoom}}
 use Rattle.pool_growth.specs.Putting.{home_then, is_sparse, IsBroughtSector, IsNewHome, IsNewSector, LeavesOtherHomes, OthersAreBlank, PutsNewPages}
 use Rattle.pool_journal.{proofs.Free.{free_most}, specs.{Committing.{CommitsInPool, IsPoolStaged}, Gates.{IsPoolGate}, Giving.{AreRising}, Journal.{free_count, IsPoolJournal}, Maps.{entries_of}, Pools.{pool, pool_gate, pool_home, pool_home_count, pool_standing, IsLoose, IsPoolRest}, Sizes.{HasPool}}}
-use Rattle.pool_journal.specs.declared.{pool.PoolJournal.{PoolJournal}, sizes.PoolSizes.{PoolSizes}}
-use Rattle.pool_store.{proofs.{Ordered.{page_is}, Ready.{in_blocks_weaker}}, specs.{Files.{StandsFor}, Places.{index_at, number_of}, Pools.{AreEntries, AreSaid, files_in_pool, pool_mark}, Store.{HasCommitRoom, IsDirectoryOn, IsReadyPool, info_by}}}
+use Rattle.pool_journal.specs.declared.{map.SlotMap.{SlotMap}, pool.PoolJournal.{PoolJournal}, sizes.PoolSizes.{PoolSizes}}
+use Rattle.pool_store.{proofs.{Ordered.{page_is}, Ready.{in_blocks_weaker, ready_with}}, specs.{Files.{StandsFor}, Places.{index_at, number_of}, Pools.{AreEntries, AreSaid, files_in_pool, pool_mark}, Store.{HasCommitRoom, IsDirectoryOn, IsReadyPool, info_by}}}
 use Rattle.pool_store.specs.declared.{directory.Directory.{Directory}, room.{CommitRoom.{CommitRoom}, Place.{Place}}, store.PoolStore.{PoolStore}}
-use Rattle.sync_journal.proofs.{Causes.{told_on}, Shared.{blocks_weaker}}
-use Rattle.sync_journal.specs.{Blocks.{LeavesInBlocks}, Commit.{changed}, Committing.{HomesStandOr}, Layouts.{HomesStandAs, IsKept, StandsForPages}, Source.{Asks, HasCauses}}
-use Rattle.sync_journal.specs.declared.{faults.CommitFault.{CommitFault}, source.PageSource.{Ghosts as SourceGhosts}}
+use Rattle.sync_journal.proofs.{Causes.{told_on, told_was}, Shared.{blocks_weaker}}
+use Rattle.sync_journal.specs.{Blocks.{LeavesInBlocks}, Commit.{changed}, Committing.{HomesStandOr}, Layouts.{HomesStandAs, IsKept, StandsForPages}, Map.{home_rank}, Source.{Asks, HasCauses}}
+use Rattle.sync_journal.specs.declared.{faults.CommitFault.{CommitFault, TheVariants.{Source}}, source.PageSource.{Ghosts as SourceGhosts}}
 
 -- the changed pages of a directory rise
 changed_rise : (changes : List Change) (n : ℕ) → AreRising (changed_pages changes n)
@@ -58,29 +58,30 @@ module _ {D : Type 0} (store : PoolStore D) (changes : List Change) (fresh list 
   abbrev takes : Bool
   takes = take_slots store changes fresh list
 
-  -- all, where slots are free for what is committed beside them, or none, where they are free for all of it;
-  put_all_or_none : (put : ℕ) → put ≡ put_count store changes fresh list → (put ≡ length fresh) ⊎ ((put ≡ 0) × (slot_count store.directory changes fresh list 0 ≤ free))
-  put_all_or_none put is = ⊎_elim
-      (λ more. inl (is ∙ cond-false takes 0 added (and_right (nat_le added 128) (nat_le all free) (lt-leb all free more))))
-      (λ fit. ⊎_elim (λ yes. inr (is ∙ cond-true takes 0 added yes, fit)) (λ no. inl (is ∙ cond-false takes 0 added no)) (cases_Bool takes))
-      (cases_lt free all)
+  -- they are new ones,
+  pub put_low : (put : ℕ) → MayPut store changes fresh list put → put ≤ length fresh
+  put_low put may = ⊎_elim (λ all. omega (arith, all)) (λ none. (let nothing = none.0 in omega (arith, nothing))) may
 
-  -- so they are new ones,
-  pub put_low : (put : ℕ) → put ≡ put_count store changes fresh list → put ≤ length fresh
-  put_low put is = ⊎_elim (λ all. omega (arith, all)) (λ none. (let nothing = none.0 in omega (arith, nothing))) (put_all_or_none put is)
-
-  -- and what goes into slots has them.
-  pub put_fits : (put : ℕ) → put ≡ put_count store changes fresh list → AreKeptPages store changes list → slot_count store.directory changes fresh list put ≤ free
-  put_fits put is kept = ⊎_elim
+  -- and what goes into slots has them;
+  pub put_fits : (put : ℕ) → MayPut store changes fresh list put → AreKeptPages store changes list → slot_count store.directory changes fresh list put ≤ free
+  put_fits put may kept = ⊎_elim
       (λ all. (let few = kept.few in omega (arith, all, few)))
       (λ none. subst (λ n. slot_count store.directory changes fresh list n ≤ free) (sym none.0) none.1)
-      (put_all_or_none put is)
+      may
 
-  pub late_few : (put : ℕ) → put ≡ put_count store changes fresh list → AreKeptPages store changes list → slot_count store.directory changes fresh list put ≤ 1008 * store.journal.sizes.blocks
-  late_few put is kept = let most = free_most store.journal.sizes.blocks (entries_of store.journal.map) in let few = put_fits put is kept in omega (arith, most, few)
+  -- and none is, where they are few, and slots are free for all of it.
+  pub put_none : length fresh ≤ 128 → HasSlotsForAll store changes fresh list → put_count store changes fresh list ≡ 0
+  put_none few fit = cond-true takes 0 added (ap (λ b. b && nat_le all free) (le-leb added 128 few) ∙ le-leb all free fit)
+
+  pub late_few : (put : ℕ) → MayPut store changes fresh list put → AreKeptPages store changes list → slot_count store.directory changes fresh list put ≤ 1008 * store.journal.sizes.blocks
+  late_few put may kept = let most = free_most store.journal.sizes.blocks (entries_of store.journal.map) in let few = put_fits put may kept in omega (arith, most, few)
 
   pub list_few : AreKeptPages store changes list → length list ≤ 1008 * store.journal.sizes.blocks
   list_few kept = let most = free_most store.journal.sizes.blocks (entries_of store.journal.map) in let few = kept.few in omega (arith, most, few)
+
+-- what a stop may leave now it might have left since any earlier moment
+abbrev CountsNow : {D : Type 0} → Ghosts D → Type 0
+CountsNow {D} g = (d : D) (t : ℕ) (image : Image) → g.keeps_model d → t ≤ g.moment d → MayLeave (g.content d) (g.unsynced d) image → g.left_since d t image
 
 -- there is room where there is as much as there was
 pub room_stays : {D : Type 0} (store : PoolStore D) (room : CommitRoom) → HasCommitRoom store.journal.sizes.blocks store.room
@@ -190,18 +191,20 @@ module _ {D : Type 0} (g : Ghosts D) (store : PoolStore D) (disk : D) (journal :
   }
 
 -- A source gives what goes into slots, from another one:
-pub record GivesLate {S L : Type 0} (s : SourceGhosts S) (l : SourceGhosts L) (pages : (ℕ → List ℕ) → ℕ → List ℕ) (from left : S) (late spent : L) : Type 0 where
+pub record GivesLate {S L : Type 0} (s : SourceGhosts S) (l : SourceGhosts L) (front : ℕ) (pages : (ℕ → List ℕ) → ℕ → List ℕ) (from left : S) (late spent : L) : Type 0 where
   -- these pages, out of the other's,
   pub pages_are : l.pages late ≡ pages (s.pages from)
-  -- with its model and its failures,
+  -- sure of those in front, which it has itself,
+  pub sure : (j : ℕ) → j < front → l.sure late j
+  -- with the other's model and failures,
   pub keeps : s.keeps_model left → l.keeps_model spent
   pub failed : l.failures late ≡ s.failures from
   pub fails : l.failures spent ≡ s.failures left
-  -- and asks it for pages alone.
+  -- and asks that one for pages alone.
   pub asks : Asks s from left
 
 module _ {D S : Type 0} (g : Ghosts D) (s : SourceGhosts S) (store : PoolStore D) (changes : List Change) (fresh list : List FilePage) (from : S)
-    (ready : IsReadyPool g store) (are : AreFileChanges store.journal.sizes.homes store.directory changes) (new_ones : AreNewPages (info_by store.directory) changes fresh) (put : ℕ) (is_put : put ≡ put_count store changes fresh list) where
+    (ready : IsReadyPool g store) (are : AreFileChanges store.journal.sizes.homes store.directory changes) (new_ones : AreNewPages (info_by store.directory) changes fresh) (put : ℕ) (may_put : MayPut store changes fresh list put) where
   abbrev m : ℕ
   m = store.journal.sizes.blocks
 
@@ -225,11 +228,10 @@ module _ {D S : Type 0} (g : Ghosts D) (s : SourceGhosts S) (store : PoolStore D
   IsBrought = IsBroughtSector store.journal store.directory changes fresh put
 
   low : put ≤ length fresh
-  low = put_low store changes fresh list put is_put
+  low = put_low store changes fresh list put may_put
 
-  -- what is brought is asked for
-  brought_asked : (k : ℕ) → IsBrought k → IsChangeAsked store changes fresh list k
-  brought_asked k at = inl (subst (λ count. IsBroughtSector store.journal store.directory changes fresh count k) is_put at)
+  abbrev IsAsked : ℕ → Type 0
+  IsAsked = IsChangeAsked store changes fresh list put
 
   abbrev Stands : (ℕ → Option FileInfo) → (ℕ → ℕ → List ℕ) → Image → Type 0
   Stands = StandsFor (files_in_pool m store.directory.pages n) sectors
@@ -251,26 +253,33 @@ module _ {D S : Type 0} (g : Ghosts D) (s : SourceGhosts S) (store : PoolStore D
     put_blocks : g.keeps_model mid → (files : ℕ → Option FileInfo) (before after : ℕ → ℕ → List ℕ) → LeavesNow g store.disk (Stands files before) → LeavesInBlocks g IsNew (OneOf files before after) store.disk mid
     put_blocks keeps files before after left = blocks_weaker g IsNew Others (OneOf files before after) store.disk mid (λ image others. inl (as_before (puts.kept keeps) files before left image others)) (puts.blocks keeps)
 
+    beside : g.keeps_model mid → Others (g.content mid)
+    beside keeps = let run = puts.blocks keeps in run.each mid run.writes (g.content mid) (record { kept = λ k. inr refl })
+
   -- A fault was told.
-  pub not_put : (mid : D) (between : S) (fault : CommitFault) → PutsNewPages g s store.journal store.directory changes fresh put store.disk mid from between (Err fault)
-      → (result : Result (Unit {0}) CommitFault) → IsErrAnd result (λ e. e ≡ fault) → CommitsChanges g s store (record { disk = mid; journal = store.journal; directory = store.directory; room = store.room }) changes fresh list from between result
-  not_put mid between fault puts (Ok done) is = absurd is
-  not_put mid between fault puts (Err e) is = record {
+  pub not_put : CountsNow g → (mid : D) (between : S) (fault : CommitFault) → PutsNewPages g s store.journal store.directory changes fresh put store.disk mid from between (Err fault)
+      → (result : Result (Unit {0}) CommitFault) → IsErrAnd result (λ e. e ≡ fault) → CommitsPutting g s put store (record { disk = mid; journal = store.journal; directory = store.directory; room = store.room }) changes fresh list from between result
+  not_put now mid between fault puts (Ok done) is = absurd is
+  not_put now mid between fault puts (Err e) is = record {
     ok = λ keeps given files before after left change. tt;
     synced = λ keeps. tt;
-    ready = λ given. tt;
+    ready = tt;
     files = tt;
     room = tt;
     any_moment = λ keeps given files before after left change. weaker g store.disk mid (Stands files before) (OneOf files before after) (λ image was. inl was) (put_moments mid between (Err fault) puts keeps files before left);
     blocks = λ keeps given files before after left change. inl (put_blocks mid between (Err fault) puts keeps files before after left);
     source = λ keeps told files before left. put_moments mid between (Err fault) puts keeps files before left;
+    source_now = λ keeps told files before left. holds_now g store.disk mid (Stands files before) (λ t image le may. now mid t image keeps le may) (put_moments mid between (Err fault) puts keeps files before left);
+    room_after_source = λ told. refl;
+    settles_after_source = λ told. settles g store ready changes are mid puts.size puts.kept (beside mid between (Err fault) puts) puts.rest_once_synced;
+    ready_after_source = λ told none. absurd (puts.some (told_was fault Source (Err e) is told) none);
     files_after_error = λ told. refl;
     sizes = refl;
     pages = refl;
     size = puts.size;
     kept = puts.kept;
     asks = puts.asks;
-    asks_device = asks_wider g IsBrought (IsChangeAsked store changes fresh list) store.disk mid brought_asked puts.asks_device;
+    asks_device = asks_wider g IsBrought IsAsked store.disk mid (λ k at. inl at) puts.asks_device;
     touches = λ keeps. wider g IsNew (IsChangedSector store changes) store.disk mid (λ k at. inl at) (puts.touches keeps);
     causes = told_on (g.failures store.disk) (g.failures mid) (s.failures from) (s.failures between) fault (Err e) is puts.causes;
   }
@@ -279,7 +288,7 @@ module _ {D S : Type 0} (g : Ghosts D) (s : SourceGhosts S) (store : PoolStore D
   module _ (kept : AreKeptPages store changes list) (mid : D) (between : S) (puts : PutsNewPages g s store.journal store.directory changes fresh put store.disk mid from between (Ok (tt {0})))
       (places : List Place) (front : List (List ℕ)) (homes : List ℕ) (lists : AreLate store.directory changes fresh list put places front homes)
       {L : Type 0} (l : SourceGhosts L) (left : S) (late spent : L)
-      (gives : GivesLate s l (late_page store.directory changes fresh list front places put) between left late spent) where
+      (gives : GivesLate s l (length front) (late_page store.directory changes fresh list front places put) between left late spent) where
     abbrev Pages : (ℕ → List ℕ) → ℕ → List ℕ
     Pages = late_page store.directory changes fresh list front places put
 
@@ -292,8 +301,8 @@ module _ {D S : Type 0} (g : Ghosts D) (s : SourceGhosts S) (store : PoolStore D
     all_long : length all_homes ≡ slot_count store.directory changes fresh list put
     all_long = sym (ap (λ (hs : List ℕ). length hs) lists.homes_are) ∙ late_long n store.directory ready.is_directory changes are fresh list put places front homes lists
 
-    beside : g.keeps_model mid → Others (g.content mid)
-    beside keeps = let run = puts.blocks keeps in run.each mid run.writes (g.content mid) (record { kept = λ k. inr refl })
+    mid_beside : g.keeps_model mid → Others (g.content mid)
+    mid_beside = beside mid between (Ok (tt {0})) puts
 
     -- New pages that are not given are zeros, where there are some.
     are_blank : g.keeps_model mid → OthersAreBlank m n store.directory changes fresh (length fresh) (g.content mid)
@@ -312,7 +321,7 @@ module _ {D S : Type 0} (g : Ghosts D) (s : SourceGhosts S) (store : PoolStore D
 
     -- what stands as it did then,
     still : g.keeps_model mid → (count : ℕ) (image : Image) → HomesStandAs (pool m n) count (g.content mid) image → Others image
-    still keeps count image alike = let was = beside keeps in record { stands = λ h i other below. alike.stands.each h i below ∙ was.stands h i other below; outside = λ k out. alike.outside k out ∙ was.outside k out }
+    still keeps count image alike = let was = mid_beside keeps in record { stands = λ h i other below. alike.stands.each h i below ∙ was.stands h i other below; outside = λ k out. alike.outside k out ∙ was.outside k out }
 
     -- and what has the rest
     has_rest : s.keeps_model left → (count : ℕ) (image : Image) → IsKept (pool m n) count (g.content mid) (StandsForPages (pool m n) (After (l.pages late))) image
@@ -322,13 +331,24 @@ module _ {D S : Type 0} (g : Ghosts D) (s : SourceGhosts S) (store : PoolStore D
     as_after : g.keeps_model mid → s.keeps_model left → (files : ℕ → Option FileInfo) (before after : ℕ → ℕ → List ℕ) → LeavesNow g store.disk (Stands files before) → ChangesFiles files changes fresh list (s.pages from) before after
         → (count : ℕ) (image : Image) → IsKept (pool m n) count (g.content mid) (StandsForPages (pool m n) (After (l.pages late))) image → Stands (files_after files changes) after image
     as_after keeps given files before after now change count image alike = stands_after n store.directory ready.is_directory changes are m sectors old (said (puts.kept keeps)) fresh new_ones list kept.ends put low
-        places (map (λ place. place.home) places) lists.placed front lists.fronts (s.pages from) (g.content mid) (beside keeps) (puts.puts keeps (gives.asks.kept given)) (are_blank keeps) image
+        places (map (λ place. place.home) places) lists.placed front lists.fronts (s.pages from) (g.content mid) (mid_beside keeps) (puts.puts keeps (gives.asks.kept given)) (are_blank keeps) image
         (has_rest given count image alike) files before after (has_content g store.disk (Stands files before) now) change
 
-    says_after : g.keeps_model mid → s.keeps_model left → (count : ℕ) (image : Image) → IsKept (pool m n) count (g.content mid) (StandsForPages (pool m n) (After (l.pages late))) image
+    -- The directory is said where its changed pages stand as they are in memory, and the others as they did.
+    says_after : g.keeps_model mid → (image : Image)
+        → ((j i : ℕ) → j < length all_homes → i < 8 → l.sure late j → pool_standing m n image (get_or all_homes j 0) i ≡ part_of (l.pages late j) i)
+        → ((h i : ℕ) → home_rank all_homes h ≡ None → i < 8 → pool_standing m n image h i ≡ pool_standing m n (g.content mid) h i)
         → AreSaid store.directory.pages (pool_standing m n image) (entries_then store.directory changes)
-    says_after keeps given count image alike = said_then n store.directory ready.is_directory changes are m sectors old (said (puts.kept keeps)) fresh new_ones list kept.ends put low
-        places (map (λ place. place.home) places) lists.placed front lists.fronts (s.pages from) (g.content mid) (beside keeps) (puts.puts keeps (gives.asks.kept given)) (are_blank keeps) image (has_rest given count image alike)
+    says_after keeps image sure others = says_then n store.directory ready.is_directory changes are m sectors old (said (puts.kept keeps)) fresh new_ones list kept.ends put low
+        places (map (λ place. place.home) places) lists.placed front lists.fronts (s.pages from) (g.content mid) (mid_beside keeps) image
+        (λ h j i at below is small.
+        let own : List ℕ = changed_pages changes store.directory.pages in
+        let first : j < length front = omega (arith, below, lists.fronts.long) in
+        let inside : j < length all_homes = omega (arith, below, length-append own (map (λ place. place.home) places)) in
+        let home : get_or all_homes j 0 ≡ h = get_or_append_left own (map (λ place. place.home) places) 0 j below ∙ is in
+        let page : l.pages late j ≡ get_or front j [] = ap (λ (pages : ℕ → List ℕ). pages j) gives.pages_are ∙ late_front store.directory changes fresh list front places put (s.pages between) j first in
+        ap (λ (k : ℕ). pool_standing m n image k i) (sym home) ∙ sure j i inside small (gives.sure j first) ∙ ap (λ (bytes : List ℕ). part_of bytes i) page)
+        (λ h i none inside small. others h i none small ∙ (mid_beside keeps).stands h i (front_not_new n store.directory ready.is_directory changes are h inside) small)
 
     as_one : g.keeps_model mid → s.keeps_model left → (files : ℕ → Option FileInfo) (before after : ℕ → ℕ → List ℕ) → LeavesNow g store.disk (Stands files before) → ChangesFiles files changes fresh list (s.pages from) before after
         → (image : Image) → HomesStandOr (pool m n) (g.sector_count mid) all_homes (l.pages late) (g.content mid) image → OneOf files before after image
@@ -352,14 +372,13 @@ module _ {D S : Type 0} (g : Ghosts D) (s : SourceGhosts S) (store : PoolStore D
           (wider g IsNew (IsChangedSector store changes) store.disk mid (λ k at. inl at) (puts.touches (commits.kept keeps)))
           (wider g (λ k. IsPoolGate k ⊎ IsLoose m store.journal.second (entries_of store.journal.map) k) (IsChangedSector store changes) mid new (λ k loose. inr loose) (commits.touches keeps))
 
-      asks_device : AsksOnly g (IsChangeAsked store changes fresh list) store.disk new
-      asks_device = asks_then g (IsChangeAsked store changes fresh list) store.disk mid new (asks_wider g IsBrought (IsChangeAsked store changes fresh list) store.disk mid brought_asked puts.asks_device)
-          (asks_wider g (λ k. IsPoolGate k ⊎ IsPoolStaged m store.journal.second (entries_of store.journal.map) all_homes k) (IsChangeAsked store changes fresh list) mid new
-          (λ k. ⊎_elim (λ gate. inr (inl gate)) (λ staged. inr (inr (subst (λ count. IsPoolStaged m store.journal.second (entries_of store.journal.map) (given_homes store.directory changes fresh list count) k) is_put
-          (late_staged n store.directory changes are fresh list put places lists.placed m store.journal.second (entries_of store.journal.map) k staged))))) commits.asks_device)
+      asks_device : AsksOnly g IsAsked store.disk new
+      asks_device = asks_then g IsAsked store.disk mid new (asks_wider g IsBrought IsAsked store.disk mid (λ k at. inl at) puts.asks_device)
+          (asks_wider g (λ k. IsPoolGate k ⊎ IsPoolStaged m store.journal.second (entries_of store.journal.map) all_homes k) IsAsked mid new
+          (λ k. ⊎_elim (λ gate. inr (inl gate)) (λ staged. inr (inr (late_staged n store.directory changes are fresh list put places lists.placed m store.journal.second (entries_of store.journal.map) k staged)))) commits.asks_device)
 
-      leaves_room : OnOk result (slot_count store.directory changes fresh list (put_count store changes fresh list) ≤ 504 * m → 504 * m ≤ free_count m (entries_of journal.map))
-      leaves_room = on_ok_weaker result (λ enough few. (let as_many = ap (slot_count store.directory changes fresh list) is_put in enough (omega (arith, few, all_long, as_many)))) commits.room
+      leaves_room : OnOk result (slot_count store.directory changes fresh list put ≤ 504 * m → 504 * m ≤ free_count m (entries_of journal.map))
+      leaves_room = on_ok_weaker result (λ enough few. enough (omega (arith, few, all_long))) commits.room
 
       moments : g.keeps_model new → s.keeps_model left → (files : ℕ → Option FileInfo) (before after : ℕ → ℕ → List ℕ) → LeavesNow g store.disk (Stands files before) → ChangesFiles files changes fresh list (s.pages from) before after
           → LeavesOnly g store.disk new (OneOf files before after)
@@ -376,13 +395,13 @@ module _ {D S : Type 0} (g : Ghosts D) (s : SourceGhosts S) (store : PoolStore D
       )
 
       -- the store, where all went well
-      is_ready : HasCommitRoom m room → directory.pages ≡ store.directory.pages → OnOk result (directory.entries.items ≡ entries_then store.directory changes) → s.keeps_model left
+      is_ready : HasCommitRoom m room → directory.pages ≡ store.directory.pages → OnOk result (directory.entries.items ≡ entries_then store.directory changes)
           → OnOk result (IsReadyPool g (record { disk = new; journal = journal; directory = directory; room = room }))
-      is_ready has pages items given = each_way result commits items
+      is_ready has pages items = each_way result commits items
         where
           outside : g.keeps_model new → (k : ℕ) → k < pool_gate → (r : Result (Unit {0}) CommitFault) → CommitsInPool g l store.journal journal all_homes mid new late spent r → OnOk r (g.content new k ≡ old k)
           outside keeps k front (Err fault) c = tt
-          outside keeps k front (Ok done) c = c.outside keeps k (inl front) ∙ (beside (c.kept keeps)).outside k (inl front)
+          outside keeps k front (Ok done) c = c.outside keeps k (inl front) ∙ (mid_beside (c.kept keeps)).outside k (inl front)
 
           each_way : (r : Result (Unit {0}) CommitFault) → CommitsInPool g l store.journal journal all_homes mid new late spent r → OnOk r (directory.entries.items ≡ entries_then store.directory changes)
               → OnOk r (IsReadyPool g (record { disk = new; journal = journal; directory = directory; room = room }))
@@ -393,13 +412,27 @@ module _ {D S : Type 0} (g : Ghosts D) (s : SourceGhosts S) (store : PoolStore D
                 outside keeps 0 (omega arith) (Ok done) c ∙ was.mark,
                 subst (λ (sector : List ℕ). IsKind m store.directory.pages sector) (sym (outside keeps 1 (omega arith) (Ok done) c)) was.kind,
               )))
-              (λ keeps. (let settled = c.ok keeps (gives.keeps given) in says_after (c.kept keeps) given (g.sector_count mid) (g.content new)
-              (record { stands = settled.stands; journal = λ bad. bad; outside = settled.outside })))
+              (λ keeps. says_after (c.kept keeps) (g.content new) (c.sure keeps) (c.others keeps))
 
-      are_committed : (s.follows from between → s.follows between left → s.follows from left) → HasCommitRoom m room → directory.pages ≡ store.directory.pages
+      -- and where the source failed, with as much room
+      ready_still : HasCommitRoom m room → (IsErr result → directory ≡ store.directory) → IsErrOf result Source → IsReadyPool g (record { disk = new; journal = journal; directory = directory; room = room })
+      ready_still has same told = subst (λ (there : Directory). IsReadyPool g (record { disk = new; journal = journal; directory = there; room = room })) (sym (same (is_error_of result told)))
+          (ready_with g store new journal room ready commits.is commits.sizes (commits.size ∙ puts.size) (λ keeps. puts.kept (commits.kept keeps)) has
+          (λ keeps. subst (λ b. IsPoolRest g m n b (entries_of journal.map) new) (sym (commits.second_stays told))
+          (subst (λ (map : SlotMap). IsPoolRest g m n store.journal.second (entries_of map) new) (sym (commits.map told)) (commits.source keeps told).rest))
+          (λ keeps k out. (commits.source keeps told).outside k out ∙ (mid_beside (commits.kept keeps)).outside k out)
+          (λ keeps h below i small. (commits.source keeps told).stands.each h i small
+          ∙ (mid_beside (commits.kept keeps)).stands h i (front_not_new n store.directory ready.is_directory changes are h below) small))
+
+      source_moments : g.keeps_model new → IsErrOf result Source → (files : ℕ → Option FileInfo) (before : ℕ → ℕ → List ℕ) → LeavesNow g store.disk (Stands files before) → LeavesOnly g store.disk new (Stands files before)
+      source_moments keeps told files before now = joined g store.disk mid new (Stands files before) (put_moments mid between (Ok (tt {0})) puts (commits.kept keeps) files before now)
+          (weaker g mid new (HomesStandAs (pool m n) (g.sector_count mid) (g.content mid)) (Stands files before)
+          (λ image alike. as_before (puts.kept (commits.kept keeps)) files before now image (still (commits.kept keeps) (g.sector_count mid) image alike)) (commits.source_moments keeps told))
+
+      are_committed : CountsNow g → (s.follows from between → s.follows between left → s.follows from left) → HasCommitRoom m room → directory.pages ≡ store.directory.pages
           → OnOk result (directory.entries.items ≡ entries_then store.directory changes) → (IsErr result → directory ≡ store.directory)
-          → CommitsChanges g s store (record { disk = new; journal = journal; directory = directory; room = room }) changes fresh list from left result
-      are_committed goes_on has pages items same = record {
+          → CommitsPutting g s put store (record { disk = new; journal = journal; directory = directory; room = room }) changes fresh list from left result
+      are_committed counts goes_on has pages items same = record {
         ok = λ keeps given files before after now change. on_ok_weaker result
             (λ settled image may. as_after (commits.kept keeps) given files before after now change (g.sector_count mid) image (settled.left image may)) (commits.ok keeps (gives.keeps given));
         synced = commits.synced;
@@ -408,9 +441,11 @@ module _ {D S : Type 0} (g : Ghosts D) (s : SourceGhosts S) (store : PoolStore D
         room = leaves_room;
         any_moment = moments;
         blocks = in_blocks;
-        source = λ keeps told files before now. joined g store.disk mid new (Stands files before) (put_moments mid between (Ok (tt {0})) puts (commits.kept keeps) files before now)
-            (weaker g mid new (HomesStandAs (pool m n) (g.sector_count mid) (g.content mid)) (Stands files before)
-            (λ image alike. as_before (puts.kept (commits.kept keeps)) files before now image (still (commits.kept keeps) (g.sector_count mid) image alike)) (commits.source_moments keeps told));
+        source = source_moments;
+        source_now = λ keeps told files before now. holds_now g store.disk new (Stands files before) (λ t image le may. counts new t image keeps le may) (source_moments keeps told files before now);
+        room_after_source = λ told. ap (λ (map : SlotMap). free_count m (entries_of map)) (commits.map told);
+        settles_after_source = λ told. ready_once_synced g (record { disk = new; journal = journal; directory = directory; room = room }) (ready_still has same told);
+        ready_after_source = λ told none. ready_still has same told;
         files_after_error = same;
         sizes = commits.sizes;
         pages = pages;
@@ -422,12 +457,12 @@ module _ {D S : Type 0} (g : Ghosts D) (s : SourceGhosts S) (store : PoolStore D
         causes = causes;
       }
 
-    pub is_committed : (new : D) (journal : PoolJournal) → (told result : Result (Unit {0}) CommitFault) → told ≡ result → CommitsInPool g l store.journal journal homes mid new late spent told
+    pub is_committed : CountsNow g → (new : D) (journal : PoolJournal) → (told result : Result (Unit {0}) CommitFault) → told ≡ result → CommitsInPool g l store.journal journal homes mid new late spent told
         → (s.follows from between → s.follows between left → s.follows from left) → (room : CommitRoom) → HasCommitRoom m room → (directory : Directory) → directory.pages ≡ store.directory.pages
         → OnOk result (directory.entries.items ≡ entries_then store.directory changes) → (IsErr result → directory ≡ store.directory) → (end : S) → end ≡ left
-        → CommitsChanges g s store (record { disk = new; journal = journal; directory = directory; room = room }) changes fresh list from end result
-    is_committed new journal told result same commits goes_on room has directory pages items still_there end ends =
+        → CommitsPutting g s put store (record { disk = new; journal = journal; directory = directory; room = room }) changes fresh list from end result
+    is_committed counts new journal told result same commits goes_on room has directory pages items still_there end ends =
         let listed : CommitsInPool g l store.journal journal all_homes mid new late spent told = subst (λ (hs : List ℕ). CommitsInPool g l store.journal journal hs mid new late spent told) lists.homes_are commits in
         let answered : CommitsInPool g l store.journal journal all_homes mid new late spent result = subst (λ (r : Result (Unit {0}) CommitFault). CommitsInPool g l store.journal journal all_homes mid new late spent r) same listed in
-        subst (λ (left : S). CommitsChanges g s store (record { disk = new; journal = journal; directory = directory; room = room }) changes fresh list from left result) (sym ends)
-        (are_committed new journal directory room result answered goes_on has pages items still_there)
+        subst (λ (left : S). CommitsPutting g s put store (record { disk = new; journal = journal; directory = directory; room = room }) changes fresh list from left result) (sym ends)
+        (are_committed new journal directory room result answered counts goes_on has pages items still_there)

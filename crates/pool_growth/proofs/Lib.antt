@@ -11,6 +11,8 @@ pub mod Owning
 pub mod Blanked
 pub mod Homed
 pub mod Placed
+pub mod Settled
+pub mod Heads
 pub mod Applied
 pub mod Listed
 pub mod Slotted

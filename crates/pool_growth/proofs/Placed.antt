@@ -1,5 +1,5 @@
 -- New pages, written one after the other where they are to stand, and what stands beside them.
-use Rattle.std.proofs.Common.{ℕ, Bool, true, false, not, Option, Some, None, List, length, replicate, slice_get, Result, Ok, Err, IsErrAnd, OnOk, ◌≡◌, ◌<◌, ◌≤◌, ◌+◌, ◌*◌, ◌⊎◌, ◌∙◌, refl, sym, ap, subst, inl, inr, ⊎_elim, arith}
+use Rattle.std.proofs.Common.{ℕ, Bool, true, false, not, Option, Some, None, List, length, replicate, slice_get, Result, Ok, Err, IsErrAnd, IsErrOf, OnOk, ◌≡◌, ◌<◌, ◌≤◌, ◌+◌, ◌*◌, ◌⊎◌, ◌∙◌, refl, sym, ap, subst, inl, inr, ⊎_elim, arith}
 use Rattle.std.proofs.lemmas.Bool.{cases_eq, false≢true}
 use Rattle.disk_model.proofs.{Moments.{started, goes_on, stays}, Naming.{once_apart, once_named}}
 use Rattle.disk_model.specs.{Moments.{Touches, LeavesOnly}, Sectors.{part_of, sector_bytes}, Stop.{Image, MayLeave, Names, NamesOnce}}
@@ -10,13 +10,14 @@ use Rattle.growth.specs.declared.changes.Change.{Change}
 use Rattle.pool_growth.proofs.{New.{new_apart, new_inside, new_is_new}, Owning.{at_home, map_block, slot_block, home_block, own_once, own_place, own_not_map, own_not_gate, own_not_behind, own_whole, IsOwn}}
 use Rattle.pool_growth.specs.Asked.{AreFileChanges, AreNewPages}
 use Rattle.pool_growth.specs.Putting.{home_then, inside_then, is_sparse, new_home, new_at, cut_new, AreZeros, BlanksNewPages, HoldsNewPages, IsBroughtSector, IsNewHome, IsNewSector, IsPutSector, LeavesOtherHomes, NewPagesStand, OthersAreBlank, PutsNewPages}
+use Rattle.pool_growth.specs.Settling.{once_synced}
 use Rattle.pool_journal.proofs.Loose.{Gives, slot_gives, slot_same, same_entry, same_place, no_map, no_home, map_low, maps_apart, loose_high, loose_low, few, stood}
 use Rattle.pool_journal.specs.{Maps.{entries_of}, Pools.{pool_gate, pool_entry, pool_named, pool_under, pool_stands, pool_standing, slot_by, IsPoolRest, IsPoolMap, IsLoose}}
 use Rattle.pool_journal.specs.declared.pool.PoolJournal.{PoolJournal}
 use Rattle.pool_store.specs.{Places.{number_of}, Store.{info_by, IsPoolOf}, declared.directory.Directory.{Directory}}
 use Rattle.sync_journal.proofs.Runs.{of_more, one_more}
 use Rattle.sync_journal.specs.{Blocks.{IsSameBlock, LeavesInBlocks}, Gate.{is_open_sector}, Layout.{IsPageSector}, Runs.{RunsOnDevice}, Steps.{FillsBody, TakesPages}}
-use Rattle.sync_journal.specs.declared.{faults.CommitFault.{CommitFault}, source.PageSource.{Ghosts as SourceGhosts}}
+use Rattle.sync_journal.specs.declared.{faults.CommitFault.{CommitFault, TheVariants.{Source}}, source.PageSource.{Ghosts as SourceGhosts}}
 
 loose_block : (m : ℕ) (second : Bool) (entries : Bool → ℕ → ℕ) (k j : ℕ) → IsSameBlock k j → IsLoose m second entries j → IsLoose m second entries k
 loose_block m second entries k j same = ⊎_elim (λ map. inl (map_block m (not second) k j same map))
@@ -114,7 +115,11 @@ module _ {D : Type 0} (g : Ghosts D) (m n : ℕ) (second : Bool) (entries : Bool
     beside_now : IsBeside (g.content new)
     beside_now k = ⊎_elim (λ w. inl (inr w)) (λ e. inr e) (run.content k)
 
-    -- and when all is synced the device is at rest as it was,
+    -- but for what is unsynced the device is at rest as it was,
+    pub rest_beside : IsPoolRest (once_synced g) m n second entries new
+    rest_beside = record { gate = gate_beside (g.content new) beside_now; map = map_beside (g.content new) beside_now; synced = λ k u. absurd u }
+
+    -- and so it is when all is synced,
     pub rest_written : ((k : ℕ) → g.unsynced new k → ⊥) → IsPoolRest g m n second entries new
     rest_written synced = record { gate = gate_beside (g.content new) beside_now; map = map_beside (g.content new) beside_now; synced = λ k u. absurd (synced k u) }
 
@@ -280,12 +285,15 @@ module _ (journal : PoolJournal) (directory : Directory) (changes : List Change)
     -- they are put, if all stand there and it is at rest,
     pub puts : (g.keeps_model new → s.keeps_model left → OnOk result (NewPagesStand journal.sizes.blocks journal.sizes.homes directory changes fresh (s.pages from) put (g.content new)))
         → (g.keeps_model new → is_sparse directory changes fresh ≡ true → OnOk result (OthersAreBlank journal.sizes.blocks journal.sizes.homes directory changes fresh put (g.content new)))
-        → (g.keeps_model new → OnOk result (IsPoolRest g journal.sizes.blocks journal.sizes.homes journal.second (entries_of journal.map) new))
+        → (g.keeps_model new → OnOk result (IsPoolRest g journal.sizes.blocks journal.sizes.homes journal.second (entries_of journal.map) new)) → (IsErrOf result Source → put ≡ 0 → ⊥)
         → PutsNewPages g s journal directory changes fresh put old new from left result
-    puts stand blanks at_rest = record {
+    puts stand blanks at_rest some = record {
       puts = stand;
       blanks = blanks;
       rest = at_rest;
+      rest_once_synced = λ keeps. rest_beside g journal.sizes.blocks journal.sizes.homes journal.second (entries_of journal.map) old (rest keeps) (IsNewHome directory changes) inside
+          (only_now (takes.kept keeps)) new (takes.touches keeps);
+      some = some;
       any_moment = λ keeps. while_written g journal.sizes.blocks journal.sizes.homes journal.second (entries_of journal.map) old (rest keeps) (IsNewHome directory changes) inside
           (only_now (takes.kept keeps)) new (takes.touches keeps);
       blocks = λ keeps. blocks_written g journal.sizes.blocks journal.sizes.homes journal.second (entries_of journal.map) old (rest keeps) (IsNewHome directory changes) inside
@@ -296,7 +304,7 @@ module _ (journal : PoolJournal) (directory : Directory) (changes : List Change)
     }
 
     -- or a fault is told;
-    pub not_put : (fault : CommitFault) → IsErrAnd result (λ e. e ≡ fault) → PutsNewPages g s journal directory changes fresh put old new from left result
+    pub not_put : (fault : CommitFault) → IsErrAnd result (λ e. e ≡ fault) → (IsErrOf result Source → put ≡ 0 → ⊥) → PutsNewPages g s journal directory changes fresh put old new from left result
     not_put fault told = puts (λ keeps kept. none_of_error result (λ e. e ≡ fault) _ told) (λ keeps sparse. none_of_error result (λ e. e ≡ fault) _ told)
         (λ keeps. none_of_error result (λ e. e ≡ fault) _ told)
 

@@ -1,12 +1,12 @@
 -- The pages that a commit of changes puts into slots: the changed ones of the directory, and behind them pages of files in the order of their homes.
-use Rattle.std.specs.Prelude.{ℕ, ◌+◌, ◌-◌, ◌<◌, ◌&&◌, Bool, List, [], ◌++◌, length, get_or, map, nat_le, nat_lt, if◌then◌else◌}
+use Rattle.std.specs.Prelude.{ℕ, ◌+◌, ◌-◌, ◌<◌, ◌≤◌, ◌≡◌, ◌⊎◌, ◌&&◌, Bool, List, [], ◌++◌, length, get_or, map, nat_le, nat_lt, if◌then◌else◌}
 use Rattle.std.specs.List.{range_with_len}
 use Rattle.vm_types.specs.declared.file.FilePage.{FilePage}
 use Rattle.file_store.specs.Layout.{padded_page}
 use Rattle.growth.specs.declared.changes.Change.{Change}
-use Rattle.pool_growth.specs.{Asked.{changed_pages, AreFileChanges}, Files.{given_page}, Putting.{home_then, inside_then}}
+use Rattle.pool_growth.specs.{Asked.{changed_pages, AreFileChanges, AreKeptPages, AreNewPages}, Files.{given_page}, Putting.{home_then, inside_then}}
 use Rattle.pool_journal.specs.{Journal.{free_count}, Maps.{entries_of}}
-use Rattle.pool_store.specs.Places.{index_at, number_of}
+use Rattle.pool_store.specs.{Places.{index_at, number_of}, Store.{files_of}}
 use Rattle.pool_store.specs.declared.{directory.Directory.{Directory}, room.Place.{Place}, store.PoolStore.{PoolStore}}
 
 -- how many pages of files go into slots, where the first `put` that the source gives are put where they are to stand
@@ -25,6 +25,25 @@ take_slots store changes fresh list = nat_le (length fresh) 128
 -- how many of them are put where they are to stand: none, where they go into slots, and otherwise all
 abbrev pub put_count : {D : Type 0} → PoolStore D → List Change → List FilePage → List FilePage → ℕ
 put_count store changes fresh list = if take_slots store changes fresh list then 0 else length fresh
+
+-- slots are free for all pages of the commit
+abbrev pub HasSlotsForAll : {D : Type 0} → PoolStore D → List Change → List FilePage → List FilePage → Type 0
+HasSlotsForAll store changes fresh list = slot_count store.directory changes fresh list 0 ≤ free_count store.journal.sizes.blocks (entries_of store.journal.map)
+
+-- so many of the new pages may be put: all, or none where slots are free for all pages of the commit
+abbrev pub MayPut : {D : Type 0} → PoolStore D → List Change → List FilePage → List FilePage → ℕ → Type 0
+MayPut store changes fresh list put = (put ≡ length fresh) ⊎ ((put ≡ 0) × HasSlotsForAll store changes fresh list)
+
+-- Files of a store may be changed, with pages of theirs, of which the first `put` are put where they are to stand:
+pub record MayCommit {D : Type 0} (store : PoolStore D) (changes : List Change) (fresh list : List FilePage) (put : ℕ) : Type 0 where
+  -- the store takes the changes,
+  pub are : AreFileChanges store.journal.sizes.homes store.directory changes
+  -- the first list gives new pages,
+  pub new_ones : AreNewPages (files_of store) changes fresh
+  -- the second one others,
+  pub kept : AreKeptPages store changes list
+  -- and so many may be put.
+  pub may : MayPut store changes fresh list put
 
 -- a source gives page k for changes that a directory may have
 abbrev pub IsGiven : Directory → List Change → List FilePage → List FilePage → ℕ → Type 0

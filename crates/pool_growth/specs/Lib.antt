@@ -6,3 +6,4 @@ pub mod Late
 pub mod Commit
 pub mod Checks
 pub mod Sizes
+pub mod Settling

@@ -1,5 +1,5 @@
 -- New pages of files, written where they are to stand: nobody looks there before the directory says that they are pages.
-use Rattle.std.specs.Prelude.{ℕ, ◌+◌, ◌<◌, ◌≤◌, ◌≡◌, ◌⊎◌, Bool, true, false, nat_lt, List, length, replicate, slice_get, Option, Some, None, Result, OnOk}
+use Rattle.std.specs.Prelude.{ℕ, ◌+◌, ◌<◌, ◌≤◌, ◌≡◌, ◌⊎◌, Bool, true, false, nat_lt, List, length, replicate, slice_get, Option, Some, None, Result, OnOk, IsErrOf}
 use Rattle.std.specs.Option.{option_map}
 use Rattle.vm_types.specs.{Files.{inside_of}, declared.file.FilePage.{FilePage}}
 use Rattle.disk_model.specs.{Moments.{AsksOnly, LeavesOnly}, Sectors.{part_of, sector_bytes}, Stop.{Image, NamesOnce}}
@@ -11,10 +11,12 @@ use Rattle.growth.specs.declared.changes.Change.{Change}
 use Rattle.pool_growth.specs.{Asked.{AreFileChanges}, Files.{files_after, file_page_count, added_count, IsNewPage}}
 use Rattle.pool_journal.specs.{Blanking.{IsSlotSectorOf}, Journal.{IsPoolJournal}, Maps.{entries_of}, Pools.{pool_home, pool_gate, pool_standing, pool_stands, slot_by, IsPoolRest}, Sizes.{HasPool}}
 use Rattle.pool_journal.specs.declared.pool.PoolJournal.{PoolJournal}
+use Rattle.pool_growth.specs.Settling.{once_synced}
 use Rattle.pool_store.specs.{Files.{info_of}, Places.{number_of}, Store.{home_by, info_by, IsDirectoryOn}}
 use Rattle.pool_store.specs.declared.directory.Directory.{Directory}
 use Rattle.sync_journal.specs.{Blocks.{LeavesInBlocks}, Layout.{IsPageSector}, Steps.{TakesPages, WritesInto}}
 use Rattle.sync_journal.specs.declared.faults.CommitFault.{CommitFault}
+use Rattle.sync_journal.specs.declared.faults.CommitFault.TheVariants.{Source}
 use Rattle.sync_journal.specs.declared.source.PageSource as Pages
 
 -- the home that a page has after changes
@@ -139,6 +141,9 @@ module _ {D S : Type 0} (g : Ghosts D) (s : Pages.Ghosts S) where
     pub blanks : g.keeps_model new → is_sparse directory changes fresh ≡ true → OnOk result (OthersAreBlank journal.sizes.blocks journal.sizes.homes directory changes fresh put (g.content new))
     -- and the device is at rest as it was.
     pub rest : g.keeps_model new → OnOk result (IsPoolRest g journal.sizes.blocks journal.sizes.homes journal.second (entries_of journal.map) new)
+    -- Whatever comes, it is at rest but for what is unsynced, and where none is put the source has not failed.
+    pub rest_once_synced : g.keeps_model new → IsPoolRest (once_synced g) journal.sizes.blocks journal.sizes.homes journal.second (entries_of journal.map) new
+    pub some : IsErrOf result Source → put ≡ 0 → ⊥
     -- Every image of a stop at any moment of the call leaves the other homes, even one that spoils whole blocks of 4,096 bytes.
     pub any_moment : g.keeps_model new → LeavesOnly g old new (LeavesOtherHomes journal.sizes.blocks journal.sizes.homes (IsNewHome directory changes) (g.content old))
     pub blocks : g.keeps_model new → LeavesInBlocks g (IsNewSector journal directory changes)

@@ -1,8 +1,9 @@
 //! Changes of files, and pages of theirs, committed all at once.
 ghost use Rattle.std.specs.Prelude.{◌≡◌, ◌<◌, ◌+◌, ℕ, length};
 ghost use Rattle.pool_growth.specs.Asked.{AreFileChanges, AreKeptPages, AreNewPages, entries_then};
-ghost use Rattle.pool_growth.specs.Commit.{CommitsChanges};
+ghost use Rattle.pool_growth.specs.Commit.{CommitsChanges, CommitsInSlots, CommitsPutting};
 ghost use Rattle.pool_growth.specs.Front.{HasChangeRoom};
+ghost use Rattle.pool_growth.specs.Late.{MayCommit};
 ghost use Rattle.pool_store.specs.Store.{files_of, IsReadyPool};
 
 use crate::changes::FileChanges;
@@ -25,8 +26,10 @@ use sync_journal::{CommitFault, PageSource};
 ///
 /// # Errors
 ///
-/// `Source` comes only where the source failed: every image that a stop might have left stands for the files before. `Device` comes only where the device failed: every
-/// one stands for the files before or for those after. After either the store is to be opened again.
+/// `Source` comes only where the source failed, and the device didn't: every image that a stop might have left, or may leave from then on, stands for the files before,
+/// and as many slots are free as before. The store is ready once `settle` has synced it, and ready as it is where the new pages were to go into slots, or none was given.
+/// It is not synced here: if that failed too, no fault would tell which of the two did. `Device` comes only where the device failed: every image stands for the files
+/// before or for those after, and the store is to be opened again.
 pub fn commit_changes<D: WriteZeros, S: PageSource>(
     store: &mut PoolStore<D>,
     room: &mut ChangeRoom,
@@ -42,6 +45,49 @@ pub fn commit_changes<D: WriteZeros, S: PageSource>(
     ensures { CommitsChanges D.SectorDisk S.PageSource store.old store.new asked.entry.changes.now asked.entry.fresh.now asked.entry.pages.now source.old source.new result }
 {
     let put = put_count(store, asked);
+    commit_putting(store, room, asked, put, source)
+}
+
+/// Makes changes of files durable, and pages of theirs, all at once, as `commit_changes` does, but that all new pages that are given go into slots, however many they
+/// are. So the store is ready after whatever fault of the source. Slots are free for them, for the others and for the changed pages of the directory. It takes 2 syncs,
+/// and 3 where new pages are not given: these become zeros where they stand, before that.
+///
+/// # Errors
+///
+/// `Source` comes only where the source failed, and the device didn't: every image that a stop might have left, or may leave from then on, stands for the files before,
+/// as many slots are free as before, and the store is ready as it is. `Device` comes only where the device failed: every image stands for the files before or for those
+/// after, and the store is to be opened again.
+pub fn commit_in_slots<D: WriteZeros, S: PageSource>(
+    store: &mut PoolStore<D>,
+    room: &mut ChangeRoom,
+    asked: FileChanges<'_>,
+    source: &mut S,
+) -> Result<(), CommitFault>
+    requires ready { IsReadyPool D.SectorDisk store.old }
+    requires room { HasChangeRoom store.old.journal.sizes.blocks store.old.directory.pages room.old }
+    requires asked { MayCommit store.old asked.changes.now asked.fresh.now asked.pages.now 0 }
+    requires gives { (i : ℕ) → i < length asked.fresh.now + length asked.pages.now → S.gives source.old i }
+    ensures commits { CommitsInSlots D.SectorDisk S.PageSource store.old store.new asked.entry.changes.now asked.entry.fresh.now asked.entry.pages.now source.old source.new result }
+    ensures room { HasChangeRoom store.old.journal.sizes.blocks store.old.directory.pages room.new }
+{
+    commit_putting(store, room, asked, 0, source)
+}
+
+/// Commits changes of files and pages of theirs, of which the first `put` of the new ones are put where they are to stand, and all others that are given go into slots.
+fn commit_putting<D: WriteZeros, S: PageSource>(
+    store: &mut PoolStore<D>,
+    room: &mut ChangeRoom,
+    asked: FileChanges<'_>,
+    put: usize,
+    source: &mut S,
+) -> Result<(), CommitFault>
+    requires ready { IsReadyPool D.SectorDisk store.old }
+    requires room { HasChangeRoom store.old.journal.sizes.blocks store.old.directory.pages room.old }
+    requires asked { MayCommit store.old asked.changes.now asked.fresh.now asked.pages.now put }
+    requires gives { (i : ℕ) → i < length asked.fresh.now + length asked.pages.now → S.gives source.old i }
+    ensures commits { CommitsPutting D.SectorDisk S.PageSource put store.old store.new asked.entry.changes.now asked.entry.fresh.now asked.entry.pages.now source.old source.new result }
+    ensures room { HasChangeRoom store.old.journal.sizes.blocks store.old.directory.pages room.new }
+{
     let new = NewPages {
         changes: asked.changes,
         fresh: asked.fresh,

@@ -1,5 +1,5 @@
 //! New pages, written where they are to stand.
-ghost use Rattle.std.specs.Prelude.{◌≡◌, ◌<◌, ◌≤◌, ◌^◌, ℕ, length, None};
+ghost use Rattle.std.specs.Prelude.{◌≡◌, ◌<◌, ◌≤◌, ◌^◌, ℕ, IsErrOf, length, None};
 ghost use Rattle.pool_growth.specs.Asked.{AreFileChanges, AreNewPages};
 ghost use Rattle.pool_growth.specs.Putting.{HoldsNewPages, IsPutSector, LiesOn, PutsNewPages};
 ghost use Rattle.pool_journal.specs.Journal.{IsPoolJournal};
@@ -7,6 +7,7 @@ ghost use Rattle.pool_journal.specs.Maps.{entries_of};
 ghost use Rattle.pool_journal.specs.Pools.{pool_home, pool_stands, slot_by};
 ghost use Rattle.pool_store.specs.Store.{info_by, IsPoolOf};
 ghost use Rattle.sync_journal.specs.Steps.{FillsBody};
+ghost use Rattle.sync_journal.specs.declared.faults.CommitFault.TheVariants.{Source};
 
 use crate::blanking::blank_new_pages;
 use crate::lookups::{added_count, home_then, inside_then};
@@ -67,9 +68,10 @@ fn write_new_pages<D: SectorDisk, S: PageSource>(
     requires fresh { AreNewPages (info_by directory.now) pages.changes.now pages.fresh.now }
     requires few { pages.count ≤ length pages.fresh.now }
     requires gives { (i : ℕ) → i < pages.count → S.gives source.old i }
-    ensures { FillsBody D.SectorDisk S.PageSource (IsPutSector journal.now directory.now pages.entry.changes.now pages.entry.fresh.now pages.entry.count)
+    ensures fills { FillsBody D.SectorDisk S.PageSource (IsPutSector journal.now directory.now pages.entry.changes.now pages.entry.fresh.now pages.entry.count)
         (IsPutSector journal.now directory.now pages.entry.changes.now pages.entry.fresh.now pages.entry.count)
         (HoldsNewPages journal.now directory.now pages.entry.changes.now pages.entry.fresh.now (S.pages source.old) pages.entry.count (D.content disk.new)) disk.old disk.new source.old source.new result }
+    ensures some { IsErrOf result Source → pages.entry.count ≡ 0 → ⊥ }
 {
     let given = journal.homes_given();
     let mut bytes = [0; 4096];

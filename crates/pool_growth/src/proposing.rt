@@ -1,10 +1,11 @@
 //! Changes of files that make of them what a caller says.
-ghost use Rattle.std.specs.Prelude.{◌≡◌, ◌<◌, ◌≤◌, ◌≢◌, ◌^◌, IfErr, IfOk, IsTrue, IsFalse, MatchOption, slice_get, Some};
+ghost use Rattle.std.specs.Prelude.{◌≡◌, ◌<◌, ◌≤◌, ◌≢◌, ◌^◌, IfErr, IfOk, IsErrOf, IsTrue, IsFalse, length, MatchOption, OnOk, slice_get, Some, vec_capacity};
 ghost use Rattle.std.specs.List.{AllPairs, All};
 ghost use Rattle.directories.specs.Homes.{pages_of_length};
 ghost use Rattle.directories.specs.Layouts.{entry_in};
 ghost use Rattle.growth.specs.Room.{HasNoRoom};
 ghost use Rattle.pool_growth.specs.Sizes.{entry_or_empty, room_behind, AreSizes, AreSizesRefused, IsSizeFor, IsProposed, ProposesChanges};
+ghost use Rattle.pool_growth.specs.declared.faults.BadSizes.TheVariants.{Memory};
 ghost use Rattle.pool_store.specs.Store.{IsReadyPool};
 ghost use Rattle.vm_types.specs.Limits.{longest_file};
 
@@ -30,8 +31,7 @@ const EMPTY: Entry = Entry {
 ///
 /// # Errors
 ///
-/// `Form` comes only where no directory like this one takes sizes like these, `NoHomes` only where there is no room for a file that is there then, beside what the sizes
-/// before it take, and `Memory` where there was too little.
+/// `Memory` comes where there was too little for as many changes as there are sizes, and otherwise those of `propose_into`.
 pub fn propose_changes<D: SectorDisk>(
     alloc: Global,
     store: &PoolStore<D>,
@@ -41,7 +41,32 @@ pub fn propose_changes<D: SectorDisk>(
     ensures proposes { IfOk result (λ changes. ProposesChanges store.now.journal.sizes.homes store.now.directory sizes.now changes.items) }
     ensures refused { IfErr result (AreSizesRefused store.now.journal.sizes.homes store.now.directory sizes.now) }
 {
+    let mut changes = Vec::with_capacity(alloc, sizes.len())?;
+    propose_into(store, sizes, &mut changes)?;
+    Ok(changes)
+}
+
+/// Lists the changes of `propose_changes` in the place of whatever was listed. There is room for as many as there are sizes, so that nothing is allocated, and there is as
+/// much afterwards.
+///
+/// # Errors
+///
+/// `Form` comes only where no directory like this one takes sizes like these, and `NoHomes` only where there is no room for a file that is there then, beside what the
+/// sizes before it take. Of what is listed then nothing is said.
+pub fn propose_into<D: SectorDisk>(
+    store: &PoolStore<D>,
+    sizes: &[FileSize],
+    changes: &mut Vec<Change>,
+) -> Result<(), BadSizes>
+    requires ready { IsReadyPool D.SectorDisk store.now }
+    requires room { length sizes.now ≤ vec_capacity changes.old }
+    ensures proposes { OnOk result (ProposesChanges store.now.journal.sizes.homes store.now.directory sizes.now changes.new.items) }
+    ensures refused { IfErr result (AreSizesRefused store.now.journal.sizes.homes store.now.directory sizes.now) }
+    ensures memory { IsErrOf result Memory → ⊥ }
+    ensures room { vec_capacity changes.new ≡ vec_capacity changes.old }
+{
     let directory = &store.directory;
+    changes.clear();
     if !are_sizes(directory.entries.len(), sizes) {
         return Err(BadSizes::Form);
     }
@@ -49,14 +74,13 @@ pub fn propose_changes<D: SectorDisk>(
         first: directory.pages,
         end: store.journal.sizes().homes,
     };
-    let mut changes = Vec::with_capacity(alloc, sizes.len())?;
     for size in sizes {
-        match change_for(directory, &changes, size, room) {
+        match change_for(directory, changes, size, room) {
             Some(change) => changes.push_reserved(change),
             None => return Err(BadSizes::NoHomes(size.file)),
         }
     }
-    Ok(changes)
+    Ok(())
 }
 
 /// The change that makes of a file what a size says, beside others.

@@ -1,12 +1,16 @@
 //! Files of a store with a pool that grow, come and go with a commit.
+ghost use Rattle.pool_growth.specs.Settling.{IsReadyOnceSynced};
 ghost use Rattle.pool_store.specs.Store.{IsReadyPool};
-ghost use Rattle.std.specs.Prelude.{OnOk};
+ghost use Rattle.std.specs.Prelude.{◌≡◌, ◌≤◌, IsErrOf, OnOk, vec_capacity};
 
 use crate::bench::{FILES, Filled, LAST, equal, expect, left};
 use directories::{EXTENTS, Entry, Extent};
 use disk_model::{SectorDisk, SimDisk};
 use growth::Change;
-use pool_growth::{ChangeRoom, FileChanges, check_changes, check_pages, commit_changes};
+use pool_growth::{
+    ChangeRoom, FileChanges, FileSize, check_changes, check_pages, commit_changes, propose_into,
+    settle,
+};
 use pool_store::{PoolStore, format, image_bytes};
 use std::process::Abort;
 use sync_journal::CommitFault;
@@ -31,10 +35,10 @@ fn entry(length: u64, first: (u32, u32), second: (u32, u32)) -> Option<Entry> {
     })
 }
 
-/// A new store of three files, of 0, 4,097 and 3 bytes, in homes 4 to 6, on a device with 16 more.
-fn made(rt: &(impl AllocGlobal + Abort)) -> SimDisk {
+/// A new store of three files, of 0, 4,097 and 3 bytes, in homes 4 to 6, on a device with so many more.
+fn made(rt: &(impl AllocGlobal + Abort), more: u8) -> SimDisk {
     let mut files = FILES;
-    let sectors = image_bytes(1, &files) / 512 + 128;
+    let sectors = image_bytes(1, &files) / 512 + 8 * u64::from(more);
     let mut disk = SimDisk::new(rt.alloc(), sectors).expect(rt, "memory");
     format(&mut disk, 1, &mut files).expect(rt, "a store");
     disk
@@ -87,7 +91,8 @@ fn change(
     bytes: &[u8],
 ) -> Result<(), CommitFault>
     requires { IsReadyPool ⟦<SimDisk as SectorDisk>⟧ store.old }
-    ensures { OnOk result (IsReadyPool ⟦<SimDisk as SectorDisk>⟧ store.new) }
+    ensures done { OnOk result (IsReadyPool ⟦<SimDisk as SectorDisk>⟧ store.new) }
+    ensures told { IsErrOf result CommitFault.Source → IsReadyOnceSynced ⟦<SimDisk as SectorDisk>⟧ store.new }
 {
     let changes = changes();
     let asked = FileChanges {
@@ -106,7 +111,8 @@ fn commit(
     bytes: &[u8],
 ) -> Result<(), CommitFault>
     requires { IsReadyPool ⟦<SimDisk as SectorDisk>⟧ store.old }
-    ensures { OnOk result (IsReadyPool ⟦<SimDisk as SectorDisk>⟧ store.new) }
+    ensures done { OnOk result (IsReadyPool ⟦<SimDisk as SectorDisk>⟧ store.new) }
+    ensures told { IsErrOf result CommitFault.Source → IsReadyOnceSynced ⟦<SimDisk as SectorDisk>⟧ store.new }
 {
     match check_changes(store, asked.changes) {
         Ok(()) => {}
@@ -209,7 +215,7 @@ fn fails(rt: &(impl AllocGlobal + Abort), disk: &SimDisk, call: u64) {
 
 #[test]
 fn files_change_with_their_pages_all_at_once(rt: HostRuntime) {
-    let disk = left(&rt, &made(&rt), None);
+    let disk = left(&rt, &made(&rt, 16), None);
     equal(&rt, found(&rt, &disk, None), BEFORE);
     let mut store = opened(&rt, left(&rt, &disk, None));
     let first = store.disk.calls();
@@ -222,12 +228,63 @@ fn files_change_with_their_pages_all_at_once(rt: HostRuntime) {
     }
 }
 
+// It fails while pages go into slots: the store is synced then all the same, and the same changes come with the next commit.
 #[test]
 fn a_source_that_fails_leaves_the_files_before(rt: HostRuntime) {
-    let mut store = opened(&rt, made(&rt));
+    let mut store = opened(&rt, made(&rt, 16));
     let done = change(&rt, &mut store, b"ab!def");
-    equal(&rt, done, Err(CommitFault::Source));
+    let is_told = matches!(done, Err(CommitFault::Source));
+    expect(&rt, is_told, "a source that fails");
     equal(&rt, found(&rt, &store.disk, Some([255; 512])), BEFORE);
+    settle(&mut store).expect(&rt, "a sync");
+    equal(&rt, bytes(&rt, &mut store), BEFORE);
+    change(&rt, &mut store, b"abcdef").expect(&rt, "a commit");
+    equal(&rt, found(&rt, &store.disk, None), AFTER);
+}
+
+/// File 0 gets 130 pages, which are given: too many for slots.
+fn grow(
+    rt: &(impl AllocGlobal + Abort),
+    store: &mut PoolStore<SimDisk>,
+    bytes: &[u8; 130],
+) -> Result<(), CommitFault>
+    requires { IsReadyPool ⟦<SimDisk as SectorDisk>⟧ store.old }
+    ensures done { OnOk result (IsReadyPool ⟦<SimDisk as SectorDisk>⟧ store.new) }
+    ensures told { IsErrOf result CommitFault.Source → IsReadyOnceSynced ⟦<SimDisk as SectorDisk>⟧ store.new }
+{
+    let mut fresh = [FilePage { file: 0, page: 0 }; 130];
+    for i in 0..130 {
+        fresh[i].page = i as u32;
+    }
+    let asked = FileChanges {
+        changes: &[Change {
+            file: 0,
+            entry: entry(130 * 4096, (8, 100), (110, 30)),
+        }],
+        fresh: &fresh,
+        pages: &[],
+    };
+    commit(rt, store, asked, bytes)
+}
+
+// It fails while they are put where they are to stand: those that are there are synced, and no file has them.
+#[test]
+fn a_source_that_fails_among_many_new_pages_leaves_a_store_that_goes_on(rt: HostRuntime) {
+    let mut store = opened(&rt, made(&rt, 150));
+    let mut given = [b'x'; 130];
+    given[100] = b'!';
+    let done = grow(&rt, &mut store, &given);
+    let is_told = matches!(done, Err(CommitFault::Source));
+    expect(&rt, is_told, "a source that fails");
+    equal(&rt, found(&rt, &store.disk, Some([255; 512])), BEFORE);
+    settle(&mut store).expect(&rt, "a sync");
+    equal(&rt, bytes(&rt, &mut store), BEFORE);
+    given[100] = b'y';
+    grow(&rt, &mut store, &given).expect(&rt, "a commit");
+    let last = byte(&rt, &mut store, FilePage { file: 0, page: 100 });
+    equal(&rt, last, b'y');
+    let after = [*b"xxx", *b"aa-", *b"b--", *b"---"];
+    equal(&rt, found(&rt, &store.disk, None), after);
 }
 
 /// File 0 with so many bytes, in the homes that the changes give it.
@@ -247,7 +304,8 @@ fn resize(
     bytes: &[u8],
 ) -> Result<(), CommitFault>
     requires { IsReadyPool ⟦<SimDisk as SectorDisk>⟧ store.old }
-    ensures { OnOk result (IsReadyPool ⟦<SimDisk as SectorDisk>⟧ store.new) }
+    ensures done { OnOk result (IsReadyPool ⟦<SimDisk as SectorDisk>⟧ store.new) }
+    ensures told { IsErrOf result CommitFault.Source → IsReadyOnceSynced ⟦<SimDisk as SectorDisk>⟧ store.new }
 {
     let asked = FileChanges {
         changes: &first_file(length),
@@ -260,11 +318,60 @@ fn resize(
 /// File 0 is cut, and gets its pages again, of which page 1 alone is given: the homes of the others have their old bytes.
 #[test]
 fn new_pages_that_nobody_gives_are_zeros(rt: HostRuntime) {
-    let mut store = opened(&rt, made(&rt));
+    let mut store = opened(&rt, made(&rt, 16));
     change(&rt, &mut store, b"abcdef").expect(&rt, "a commit");
     store.tidy().expect(&rt, "pages at home");
     resize(&rt, &mut store, 0, &[], b"").expect(&rt, "a cut");
     resize(&rt, &mut store, 9000, &FRESH[1..2], b"x").expect(&rt, "new pages");
     let after = [*b"\0x\0", *b"afd", *b"---", *b"e--"];
     equal(&rt, found(&rt, &store.disk, None), after);
+}
+
+/// File 0 gets so many bytes of zeros, and file 2 goes, by changes that are listed where there is room for two.
+fn propose_and_commit(
+    rt: &(impl AllocGlobal + Abort),
+    store: &mut PoolStore<SimDisk>,
+    length: u64,
+    changes: &mut Vec<Change>,
+)
+    requires ready { IsReadyPool ⟦<SimDisk as SectorDisk>⟧ store.old }
+    requires room { 2 ≤ vec_capacity changes.old }
+    ensures ready { IsReadyPool ⟦<SimDisk as SectorDisk>⟧ store.new }
+    ensures room { vec_capacity changes.new ≡ vec_capacity changes.old }
+{
+    let sizes = [
+        FileSize {
+            file: 0,
+            is_there: 1,
+            length,
+        },
+        FileSize {
+            file: 2,
+            is_there: 0,
+            length: 0,
+        },
+    ];
+    match propose_into(store, &sizes, changes) {
+        Ok(()) => {}
+        Err(fault) => panic!(rt; "{fault:?}"),
+    }
+    let asked = FileChanges {
+        changes: changes.as_slice(),
+        fresh: &[],
+        pages: &[],
+    };
+    commit(rt, store, asked, b"").expect(rt, "a commit");
+}
+
+#[test]
+fn changes_are_listed_in_the_same_place_again(rt: HostRuntime) {
+    let mut store = opened(&rt, made(&rt, 16));
+    let mut changes = Vec::with_capacity(rt.alloc(), 2).expect(&rt, "memory");
+    propose_and_commit(&rt, &mut store, 8192, &mut changes);
+    let after = [*b"\0\0-", *b"aa-", *b"---", *b"---"];
+    equal(&rt, bytes(&rt, &mut store), after);
+    propose_and_commit(&rt, &mut store, 12288, &mut changes);
+    equal(&rt, changes.len(), 2);
+    let after = [*b"\0\0\0", *b"aa-", *b"---", *b"---"];
+    equal(&rt, bytes(&rt, &mut store), after);
 }

@@ -7,7 +7,7 @@ use Rattle.pool_growth.proofs.Placed.{made_zeros, none_made, not_put, place_now,
 use Rattle.pool_growth.specs.{Files.{added_count}, Putting.{is_sparse, new_home, IsBroughtSector, IsNewSector, IsPutSector}}
 use Rattle.pool_journal.specs.{Maps.{entries_of}, Pools.{pool_standing}}
 use Rattle.pool_store.specs.Store.{info_by}
-use Rattle.sync_journal.{proofs.{Causes.{asks_nothing, calm_first, told_on, device_failed, none_failed}, Runs.{and_no_write}}, specs.Steps.{TakesPages}}
+use Rattle.sync_journal.{proofs.{Causes.{asks_nothing, calm_first, told_on, told_was, not_source, device_failed, none_failed}, Runs.{and_no_write}}, specs.{Steps.{TakesPages}, declared.faults.CommitFault.TheVariants.{Source}}}
 use Rattle.pool_growth.proofs.placing.put_new_pages.Goals.{After-write_new_pages, then-sparse+in_ok-blank_new_pages, else-sparse}
 use Rattle.pool_growth.proofs.placing.put_new_pages.Goals as goal
 
@@ -53,7 +53,7 @@ returns-then-not-sparse g c =
     } in
     puts journal directory changes c.requires.changes fresh c.requires.fresh count c.requires.few d s old from is (λ keeps image. g.met.D.SectorDisk.only_now old image keeps) old from (Ok (tt {0})) takes
     (λ k. inr refl) (λ so. once_none (IsPutSector journal directory changes fresh count) (d.asked old) (d.asked old) (λ k. refl))
-    (λ keeps kept i j below. absurd (omega (arith, below, none))) (λ keeps so. absurd (false≢true (sym all ∙ so))) (λ keeps. (is.at_rest keeps).rest)
+    (λ keeps kept i j below. absurd (omega (arith, below, none))) (λ keeps so. absurd (false≢true (sym all ∙ so))) (λ keeps. (is.at_rest keeps).rest) (λ told. cc)
 
 pub returns-in_err-blank_new_pages : goal.returns-in_err-blank_new_pages
 returns-in_err-blank_new_pages g c =
@@ -75,7 +75,7 @@ returns-in_err-blank_new_pages g c =
       causes = device_failed _ _ _ _ _ c.from_residual.ensures.1 (b.failed refl) refl;
     } in
     not_put journal directory changes c.requires.changes fresh c.requires.fresh c.args.pages.count c.requires.few d s old from c.requires.is (λ keeps image. g.met.D.SectorDisk.only_now old image keeps) new from result takes
-    (λ k. ⊎_elim (λ same. inr same) (λ of. inl (inl (sparse, of.0))) (b.once.each k)) (λ so. absurd (false≢true (sym so ∙ sparse))) _ c.from_residual.ensures.1
+    (λ k. ⊎_elim (λ same. inr same) (λ of. inl (inl (sparse, of.0))) (b.once.each k)) (λ so. absurd (false≢true (sym so ∙ sparse))) _ c.from_residual.ensures.1 (λ told. absurd (not_source result c.from_residual.ensures.1 told))
 
 pub returns-in_err-write_new_pages : goal.returns-in_err-write_new_pages
 returns-in_err-write_new_pages g c =
@@ -94,14 +94,15 @@ returns-in_err-write_new_pages g c =
     let zeros = made g (goal.at.returns-in_err-write_new_pages g c).After-write_new_pages in
     let result = c.from_residual-in_err-write_new_pages.result in
     let takes : TakesPages d s (IsNewSector journal directory changes) old new from left result = record {
-      run = written_run journal directory changes c.requires.changes fresh c.requires.fresh count c.requires.few d s old from blank new left c.write_new_pages.result zeros c.write_new_pages.ensures;
-      asks = c.write_new_pages.ensures.asks;
-      causes = calm_first zeros.calm (told_on _ _ _ _ _ _ c.from_residual-in_err-write_new_pages.ensures.1 c.in_err-write_new_pages.ensures.causes);
+      run = written_run journal directory changes c.requires.changes fresh c.requires.fresh count c.requires.few d s old from blank new left c.write_new_pages.result zeros c.write_new_pages.ensures.fills;
+      asks = c.write_new_pages.ensures.fills.asks;
+      causes = calm_first zeros.calm (told_on _ _ _ _ _ _ c.from_residual-in_err-write_new_pages.ensures.1 c.in_err-write_new_pages.ensures.fills.causes);
     } in
     not_put journal directory changes c.requires.changes fresh c.requires.fresh count c.requires.few d s old from c.requires.is (λ keeps image. g.met.D.SectorDisk.only_now old image keeps) new left result takes
-    (written_asks journal directory changes c.requires.changes fresh c.requires.fresh count c.requires.few d s old from blank new left c.write_new_pages.result zeros c.write_new_pages.ensures)
-    (written_once journal directory changes c.requires.changes fresh c.requires.fresh count c.requires.few d s old from blank new left c.write_new_pages.result zeros c.write_new_pages.ensures)
+    (written_asks journal directory changes c.requires.changes fresh c.requires.fresh count c.requires.few d s old from blank new left c.write_new_pages.result zeros c.write_new_pages.ensures.fills)
+    (written_once journal directory changes c.requires.changes fresh c.requires.fresh count c.requires.few d s old from blank new left c.write_new_pages.result zeros c.write_new_pages.ensures.fills)
     _ c.from_residual-in_err-write_new_pages.ensures.1
+    (λ told. c.in_err-write_new_pages.ensures.some (told_was _ Source result c.from_residual-in_err-write_new_pages.ensures.1 told))
 
 pub returns-in_err-sync : goal.returns-in_err-sync
 returns-in_err-sync g c =
@@ -118,7 +119,7 @@ returns-in_err-sync g c =
     let mid = c.write_new_pages.new.disk in
     let new = c.sync.new.self in
     let left = c.write_new_pages.new.source in
-    let w = c.in_ok-write_new_pages.ensures in
+    let w = c.in_ok-write_new_pages.ensures.fills in
     let y = c.sync.ensures in
     let zeros = made g (goal.at.returns-in_err-sync g c).After-write_new_pages in
     let run = and_no_write d (IsNewSector journal directory changes) old mid new
@@ -136,7 +137,7 @@ returns-in_err-sync g c =
       causes = device_failed _ _ _ _ _ c.from_residual-in_err-sync.ensures.1 (let failed = c.in_err-sync.ensures.cause.failed refl in omega (arith, failed, w.causes.device_calm, zeros.calm)) w.causes.source_calm;
     } in
     not_put journal directory changes c.requires.changes fresh c.requires.fresh count c.requires.few d s old from c.requires.is (λ keeps image. g.met.D.SectorDisk.only_now old image keeps) new left result takes
-    asks once _ c.from_residual-in_err-sync.ensures.1
+    asks once _ c.from_residual-in_err-sync.ensures.1 (λ told. absurd (not_source result c.from_residual-in_err-sync.ensures.1 told))
 
 pub returns : goal.returns
 returns g c =
@@ -153,7 +154,7 @@ returns g c =
     let mid = c.write_new_pages.new.disk in
     let new = c.sync.new.self in
     let left = c.write_new_pages.new.source in
-    let w = c.in_ok-write_new_pages.ensures in
+    let w = c.in_ok-write_new_pages.ensures.fills in
     let y = c.sync.ensures in
     let zeros = made g (goal.at.returns g c).After-write_new_pages in
     let run = and_no_write d (IsNewSector journal directory changes) old mid new
@@ -177,4 +178,4 @@ returns g c =
     (λ keeps kept i j below small. place keeps (new_home directory changes fresh i) j ∙ w.body (y.kept keeps) kept i j below small)
     (λ keeps sparse h j is other small. place keeps h j
     ∙ still_zeros journal directory changes c.requires.changes fresh c.requires.fresh count c.requires.few d s old from blank mid left (Ok (tt {0})) zeros w sparse (y.kept keeps) h j is other small)
-    (λ keeps. still_rest journal directory changes c.requires.changes fresh c.requires.fresh count c.requires.few d s old from c.requires.is only_now new left (Ok (tt {0})) takes asks once keeps (c.in_ok-sync.ensures.synced keeps))
+    (λ keeps. still_rest journal directory changes c.requires.changes fresh c.requires.fresh count c.requires.few d s old from c.requires.is only_now new left (Ok (tt {0})) takes asks once keeps (c.in_ok-sync.ensures.synced keeps)) (λ told. cc)

@@ -23,8 +23,8 @@ loop-i-init g c = record {
 pub page-requires : goal.page-requires
 page-requires g c = c.loop-i.invariant.asks.still c.loop-i.i (c.requires.gives c.loop-i.i (omega (arith, c.loop-i-test.true)))
 
-pub returns-in_err-page : goal.returns-in_err-page
-returns-in_err-page g c =
+pub returns-in_err-page-clause-fills : goal.returns-in_err-page-clause-fills
+returns-in_err-page-clause-fills g c =
     let journal = c.args.journal.now in
     let directory = c.args.directory.now in
     let changes = c.args.pages.changes.now in
@@ -71,8 +71,8 @@ write_page-requires-clause-fits g c =
     (subst (λ n. c.home_then-home.result < n) c.requires.on.pool.homes (c.home_then-home.ensures.inside c.args.journal.now.sizes.homes c.requires.changes)) in
     omega (arith, low, c.stands_at.ensures.inside, c.requires.on.pool.sized.1)
 
-pub returns-in_err-write_page : goal.returns-in_err-write_page
-returns-in_err-write_page g c =
+pub returns-in_err-write_page-clause-fills : goal.returns-in_err-write_page-clause-fills
+returns-in_err-write_page-clause-fills g c =
     let d = g.D.SectorDisk in
     let journal = c.args.journal.now in
     let directory = c.args.directory.now in
@@ -139,8 +139,8 @@ loop-i-preserved g c =
       once = once;
     }
 
-pub returns : goal.returns
-returns g c =
+pub returns-clause-fills : goal.returns-clause-fills
+returns-clause-fills g c =
     let d = g.D.SectorDisk in
     let journal = c.args.journal.now in
     let directory = c.args.directory.now in

@@ -4,7 +4,7 @@ use Rattle.directories.specs.{Homes.{pages_of_length}, Layouts.{entry_in}}
 use Rattle.growth.specs.{Room.{HasNoRoom}, declared.changes.Change.{Change}}
 use Rattle.pool_growth.specs.Sizes.{entry_or_empty, AreProposed, AreSizes, IsProposed}
 use Rattle.pool_growth.proofs.Proposed.{no_size, one_more_proposed, proposes}
-use Rattle.pool_growth.proofs.proposing.propose_changes.Goals as goal
+use Rattle.pool_growth.proofs.proposing.propose_into.Goals as goal
 
 pub returns-in-None-clause-refused : goal.returns-in-None-clause-refused
 returns-in-None-clause-refused g c =

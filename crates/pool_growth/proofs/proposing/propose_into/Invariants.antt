@@ -1,7 +1,7 @@
 use Rattle.std.proofs.Common.{◌≡◌, ◌≤◌, length}
 use Rattle.std.specs.Prelude.{vec_capacity}
 use Rattle.pool_growth.specs.Sizes.{AreProposed}
-use Rattle.pool_growth.proofs.proposing.propose_changes.Given as goal
+use Rattle.pool_growth.proofs.proposing.propose_into.Given as goal
 
 abbrev pub invariant-loop-size : goal.invariant-loop-size
 invariant-loop-size g l = record {
