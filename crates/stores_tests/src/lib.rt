@@ -1,5 +1,5 @@
-//! Tests of stores of any layout over a device in memory: how they are opened, read, committed to, tidied and upgraded, what stands after stops, and what is
-//! no store.
+//! Tests of stores of any layout over a device in memory: how they are opened, read, committed to, tidied and upgraded, how their files get other lengths, what stands
+//! after stops, and what is no store.
 #![tactic(auto)]
 
 #[cfg(test)]
@@ -8,6 +8,8 @@ mod bench;
 mod changes;
 #[cfg(test)]
 mod commits;
+#[cfg(test)]
+mod lengths;
 #[cfg(test)]
 mod old_stores;
 #[cfg(test)]

@@ -1,0 +1,17 @@
+pub mod Possible
+pub mod TakenLengths
+pub mod TakenPages
+pub mod TakenBytes
+pub mod TakenListed
+pub mod TakenLists
+pub mod TakenAsked
+pub mod TakenMoments
+pub mod Taken
+pub mod Rows
+pub mod Settled
+pub mod Picked
+pub mod Zeroed
+pub mod Gathered
+pub mod Resized
+pub mod Started
+pub mod LeftPages

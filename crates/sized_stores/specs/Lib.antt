@@ -1,0 +1,9 @@
+pub mod Store
+pub mod Faults
+pub mod Reading
+pub mod Resizing
+pub mod Room
+pub mod Given
+pub mod Listing
+pub mod Commit
+pub mod Listed
