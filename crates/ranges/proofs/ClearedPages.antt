@@ -17,7 +17,7 @@ pub but_then : {mode : ℕ} (a b c : Picture mode) → SameButMemory a b → Sam
 but_then a b c one two = search rules
 
 pub rest-refl : {M : Type 0} {m : Levels.Ghosts M} → {D E : Type 0} (c : Core D E M m) → KeepsBesideMemory c c
-rest-refl c = record { store = refl; pages = refl; cache = refl; roots = refl; regions = refl; page_of = refl }
+rest-refl c = record { store = refl; pages = refl; cache = refl; roots = refl; regions = refl; clock = refl; page_of = refl }
 
 pub rest_then : {M : Type 0} {m : Levels.Ghosts M} → {D E : Type 0} (a b c : Core D E M m) → KeepsBesideMemory a b → KeepsBesideMemory b c → KeepsBesideMemory a c
 rest_then a b c one two = search rules

@@ -3,6 +3,7 @@ use Rattle.vm_types.specs.declared.mode.Levels as Levels
 use Rattle.ranges.proofs.Names.{user_end, sizes, picture_of, widest_end, ObjectPage, PageKey, Object, Attr, Backing, Common, Maps, names, is_named, is_object_page, in_row, ◌≡◌, ◌≢◌, ℕ, inl, inr, ◌⊎◌, ◌+◌, ◌<◌, ◌≤◌, true, false, Option, Some, None, refl, sym, ap, ◌∙◌}
 use Rattle.ranges.proofs.Names.{subst, arith, eqb-true, eq-eqb, ne_eqb, rules, ◌==◌, same_Some, cases_eq, cases_lt, cases_Bool, false≢true, and_parts, Place, Home, Frame, Slot, Core, KeepsBesidePlaces, Picture, entry, IsFit, AreObjects}
 use Rattle.ranges.proofs.Names.{Forgets, HasNoEntry, cases_page, named-same, named_by, named-at, named-where}
+use Rattle.{regions.specs.Search.{StandsOn}, std.proofs.lemmas.Bool.{and_from}, vm_types.specs.Attributes.{stands_on}}
 use Rattle.ranges.{specs.{ObjectSteps.{IsForgottenThere}, Rows.{IsBareRow, IsLasting, IsLastName, ForgetsMore, ForgetsRow, node_of, without_maps}}, proofs.{Emptied.{row_parts, in_row_from}, Named.{named-imp}}}
 
 module _ (mode : ℕ) (at : Maps) (pid first pages : ℕ) where
@@ -61,12 +62,20 @@ module _ (mode : ℕ) (at : Maps) (pid first pages : ℕ) where
           let gone : without_maps at pid first pages q k ≡ None = ap (λ x. without_maps at pid first pages x k) there.0 ∙ ap (λ x. without_maps at pid first pages pid x) there.1 ∙ row_none j inside in
           false≢true (sym (ap (λ x. names x p.object p.page) gone) ∙ is)
 
--- so no page that names it has an entry
+named_backing : (b : Backing) (p : ObjectPage) → stands_on b ≡ Some (Object p) → is_object_page b p.object p.page ≡ true
+named_backing (Common q) p is = and_from _ _ (eq-eqb q.object p.object (cc)) (eq-eqb q.page p.page (cc))
+named_backing b p is = (cc)
+
+-- what stands on a page of an object names it
+named_on : (map : ℕ → Option Attr) (p : ObjectPage) (k : ℕ) → StandsOn map (Object p) k → names (map k) p.object p.page ≡ true
+named_on map p k stands = ap (λ a. names a p.object p.page) stands.mapped ∙ named_backing stands.attr.backing p stands.on
+
+-- so no page that stands on it has an entry
 module _ {mode : ℕ} where
   pub bare_last : (c : Picture mode) (pid first pages : ℕ) (p : ObjectPage) (j : ℕ) → IsFit c → IsBareRow c pid first pages → in_row first pages j ≡ true → names (c.at pid j) p.object p.page ≡ true
-      → ((q : ℕ) → q ≢ pid → names (c.at q j) p.object p.page ≡ false) → HasNoEntry c p
-  bare_last c pid first pages p j fit bare inside here none q k h named =
-      let there = only_there mode c.at pid first pages fit.granting.objects p j inside here none q k named in
+      → ((q : ℕ) → q ≢ pid → names (c.at q j) p.object p.page ≡ false) → HasNoEntry c (Object p)
+  bare_last c pid first pages p j fit bare inside here none q k h stands =
+      let there = only_there mode c.at pid first pages fit.granting.objects p j inside here none q k (named_on (c.at q) p k stands) in
       ap (λ x. entry c x k) there.0 ∙ ap (λ x. entry c pid x) there.1 ∙ bare j inside
 
 abbrev slot_number : Place → ℕ
@@ -77,7 +86,7 @@ slot_or : (x : Place) (k : ℕ) → (x ≡ Slot (record { 0 = k })) ⊎ (x ≢ S
 slot_or (Slot j) k = elim (cases_eq j.0 k) [ inl e ↦ inl (ap (λ i. Slot (record { 0 = i })) e) | inr ne ↦ inr (λ e. ne (ap slot_number e)) ]
 slot_or x k = inr (λ e. (cc))
 
-pub more_then : {mode : ℕ} (a b c : Picture mode) (pid first pages : ℕ) (p : ObjectPage) → IsFit b → ForgetsMore a b pid first pages → Forgets b c p
+pub more_then : {mode : ℕ} (a b c : Picture mode) (pid first pages : ℕ) (p : ObjectPage) → IsFit b → ForgetsMore a b pid first pages → Forgets b c (Object p)
     → is_named (without_maps a.at pid first pages) p.object p.page ≡ false → ForgetsMore a c pid first pages
 more_then a b c pid first pages p fit more forgets unnamed = record {
   frees = record {
@@ -148,7 +157,7 @@ module _ {mode : ℕ} (a b : Picture mode) (pid first pages frames node : ℕ) (
     | inr ne ↦ gone p m at (omega (arith, below, ne))
   ]
 
-  pub gone_forgot : (c : Picture mode) (q : ObjectPage) → o ≡ Some q → Forgets b c q
+  pub gone_forgot : (c : Picture mode) (q : ObjectPage) → o ≡ Some q → Forgets b c (Object q)
       → (p : ObjectPage) (m : ℕ) → node_of frames (c.place (Object p)) ≡ Some m → m < node + 1 → is_named (without_maps a.at pid first pages) p.object p.page ≡ true
   gone_forgot c q is forgets p m at below = elim (cases_page (Object p) (Object q)) [
     | inl e ↦ absurd (let bad : None ≡ Some m = sym (ap (λ x. node_of frames x) (ap c.place e ∙ forgets.placed)) ∙ at in (cc))

@@ -21,3 +21,4 @@ pub mod Naming
 pub mod LastName
 pub mod Marking
 pub mod Outlived
+pub mod Nodes

@@ -3,6 +3,7 @@ use Rattle.vm_types.specs.declared.mode.Levels as Levels
 use Rattle.std.specs.Prelude.{◌≡◌, ◌≢◌, ℕ, ◌<◌, ◌≤◌, ◌⊎◌, true, false}
 use Rattle.vm_types.specs.Objects.{names}
 use Rattle.vm_types.specs.declared.object.ObjectPage.{ObjectPage}
+use Rattle.vm_types.specs.declared.object.PageKey.TheVariants.{Object}
 use Rattle.residency.specs.Picture.{Picture, picture_of, entry}
 use Rattle.residency.specs.Parts.{IsFit}
 use Rattle.residency.specs.declared.kernel.Core.{Core}
@@ -35,5 +36,5 @@ module _ {M : Type 0} {m : Levels.Ghosts M} {D E : Type 0} where
   abbrev pub IsForgottenThere : Core D E M m → Core D E M m → ℕ → ℕ → ObjectPage → Type 0
   IsForgottenThere old new pid k p =
       ((new ≡ old) × ((q : ℕ) × (q < 65) × (q ≢ pid) × (names ((picture_of old).at q k) p.object p.page ≡ true)))
-      ⊎ (Forgets (picture_of old) (picture_of new) p × KeepsBesidePlaces old new
+      ⊎ (Forgets (picture_of old) (picture_of new) (Object p) × KeepsBesidePlaces old new
       × ((q : ℕ) → q ≢ pid → names ((picture_of old).at q k) p.object p.page ≡ false))

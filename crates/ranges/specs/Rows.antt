@@ -138,7 +138,7 @@ module _ {M : Type 0} {m : Levels.Ghosts M} {D E : Type 0} where
   abbrev pub IsLastName : Core D E M m → Core D E M m → ℕ → ℕ → ℕ → ObjectPage → Type 0
   IsLastName old new pid first pages p =
       ((new ≡ old) × (is_named (without_maps (picture_of old).at pid first pages) p.object p.page ≡ true))
-      ⊎ (Forgets (picture_of old) (picture_of new) p × KeepsBesidePlaces old new
+      ⊎ (Forgets (picture_of old) (picture_of new) (Object p) × KeepsBesidePlaces old new
       × (is_named (without_maps (picture_of old).at pid first pages) p.object p.page ≡ false))
 
 -- The mapped pages of a row of one process have the permission, and keep their own copies. Those that lie in frames have the

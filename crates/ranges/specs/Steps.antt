@@ -39,6 +39,7 @@ module _ {M : Type 0} {m : Levels.Ghosts M} {D E : Type 0} where
     pub cache : new.cache ≡ old.cache
     pub roots : new.roots ≡ old.roots
     pub regions : new.regions ≡ old.regions
+    pub clock : new.clock ≡ old.clock
     pub page_of : new.page_of ≡ old.page_of
 
   -- a call that asks neither device

@@ -147,16 +147,23 @@ fn object_at<D, E, M: Levels>(core: &Core<D, E, M>, node: u32) -> Option<ObjectP
     ensures away { IfSome result (λ p. (picture_of core.now).place (Object p) ≢ Home) }
     ensures found { (p : ObjectPage) → node_of (cache_frames core.now.cache) ((picture_of core.now).place (Object p)) ≡ Some node → result ≡ Some p }
 {
-    let frames = core.cache.frames();
-    let held = if node < frames {
-        core.cache.page_in_frame(FrameNo(node))
-    } else {
-        core.cache.page_in_slot(SlotNo(node - frames))
-    };
-    match held {
+    match page_in(core, node) {
         Some(PageKey::Object(page)) => Some(page),
         _ => None,
     }
+}
+
+/// The page of a file or an object that a frame holds, or a slot, the slots being numbered behind the frames.
+pub fn page_in<D, E, M: Levels>(core: &Core<D, E, M>, node: u32) -> Option<PageKey>
+    requires { node < cache_frames core.now.cache + slot_count core.now.cache }
+    ensures held { IfSome result (λ p. (picture_of core.now).place p ≢ Home) }
+    ensures found { (p : PageKey) → node_of (cache_frames core.now.cache) ((picture_of core.now).place p) ≡ Some node → result ≡ Some p }
+{
+    let frames = core.cache.frames();
+    if node < frames {
+        return core.cache.page_in_frame(FrameNo(node));
+    }
+    core.cache.page_in_slot(SlotNo(node - frames))
 }
 
 /// Forgets a page of an object that lies somewhere, where none but the row names it.
@@ -185,7 +192,7 @@ fn forget_there<D, E, M: Levels>(core: &mut Core<D, E, M>, pid: Pid, at: Vpn, pa
     ensures there { IsForgottenThere core.old core.new pid at page }
 {
     if !is_named_beside(core, pid, at, page) {
-        core.forget(page);
+        core.forget(PageKey::Object(page));
     }
 }
 

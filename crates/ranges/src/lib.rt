@@ -14,7 +14,7 @@ mod rows;
 
 pub use clearing::clear_row;
 pub use entries::{next_entry, next_place};
-pub use forgetting::forget_row;
+pub use forgetting::{forget_row, page_in};
 pub use numbering::free_object;
 pub use permitting::reprotect;
 pub use remapping::remap;

@@ -1,16 +1,14 @@
 -- What one step of a call changes.
-use Rattle.std.specs.Prelude.{◌≡◌, ◌≢◌, ℕ, ◌<◌, ◌≤◌, ◌⊎◌, ◌↔◌, true, false, Some, None}
+use Rattle.std.specs.Prelude.{◌≡◌, ◌≢◌, ℕ, ◌<◌, ◌≤◌, ◌⊎◌, ◌↔◌, false, Some, None}
 use Rattle.vm_types.specs.Processes.{process_limit}
 use Rattle.vm_types.specs.Limits.{top_level}
-use Rattle.vm_types.specs.declared.object.ObjectPage.{ObjectPage}
 use Rattle.vm_types.specs.declared.object.PageKey.{PageKey}
-use Rattle.vm_types.specs.declared.object.PageKey.TheVariants.{Object}
-use Rattle.vm_types.specs.Objects.{names}
 use Rattle.frames.specs.declared.role.Role.TheVariants.{Free, Table, Private, Cache}
 use Rattle.frames.specs.FrameTable.{FrameTable, frame_count, bytes_of, role_of, count_of, SameButFor, Takes}
 use Rattle.page_cache.specs.declared.place.Place.TheVariants.{Home, Frame, Slot}
 use Rattle.swap.specs.Slots.{IsInUse}
 use Rattle.page_tables.specs.Tree.{IsPage, IsSpare, Points}
+use Rattle.regions.specs.Search.{StandsOn}
 use Rattle.residency.specs.Picture.{Picture, entry, view, held}
 use Rattle.residency.specs.Parts.{IsPageFor}
 
@@ -140,29 +138,29 @@ module _ {mode : ℕ} where
     pub touched : (p : PageKey) → new.touched p ≡ old.touched p
     pub files : (f : ℕ) → new.files f ≡ old.files f
 
--- no page that names that page of an object has an entry
+-- no page that stands on that page of a file or an object has an entry
 module _ {mode : ℕ} where
-  abbrev pub HasNoEntry : Picture mode → ObjectPage → Type 0
-  HasNoEntry c p = (pid k : ℕ) → IsPage (top_level mode) k → names (c.at pid k) p.object p.page ≡ true → entry c pid k ≡ 0
+  abbrev pub HasNoEntry : Picture mode → PageKey → Type 0
+  HasNoEntry c p = (pid k : ℕ) → IsPage (top_level mode) k → StandsOn (c.at pid) p k → entry c pid k ≡ 0
 
--- A page of an object is at home, which is zeros, and nothing else is seen otherwise. The frame or the slot that it had is free.
+-- A page of a file or an object is at home and untouched, and nothing else is seen otherwise. The frame or the slot that it had is free.
 module _ {mode : ℕ} where
-  pub record Forgets (old new : Picture mode) (p : ObjectPage) : Type 0 where
+  pub record Forgets (old new : Picture mode) (p : PageKey) : Type 0 where
     pub root : (pid : ℕ) → new.root pid ≡ old.root pid
     pub at : (pid k : ℕ) → new.at pid k ≡ old.at pid k
     pub page_of : (n : ℕ) → new.page_of n ≡ old.page_of n
     pub files : (f : ℕ) → new.files f ≡ old.files f
-    pub placed : new.place (Object p) ≡ Home
-    pub others : (q : PageKey) → q ≢ Object p → new.place q ≡ old.place q
-    pub now : new.touched (Object p) ≡ false
-    pub rest : (q : PageKey) → q ≢ Object p → new.touched q ≡ old.touched q
+    pub placed : new.place p ≡ Home
+    pub others : (q : PageKey) → q ≢ p → new.place q ≡ old.place q
+    pub now : new.touched p ≡ false
+    pub rest : (q : PageKey) → q ≢ p → new.touched q ≡ old.touched q
     pub entries : (pid k : ℕ) → IsPage (top_level mode) k → entry new pid k ≡ entry old pid k
     pub views : (pid k : ℕ) → view new pid k ≡ view old pid k
-    pub held : (q : PageKey) → q ≢ Object p → held new q ≡ held old q
+    pub held : (q : PageKey) → q ≢ p → held new q ≡ held old q
     pub frames : frame_count new.frames ≡ frame_count old.frames
-    pub roles : (n : ℕ) → (role_of new.frames n ≡ role_of old.frames n) ⊎ ((role_of new.frames n ≡ Free) × (old.place (Object p) ≡ Frame (record { 0 = n })))
+    pub roles : (n : ℕ) → (role_of new.frames n ≡ role_of old.frames n) ⊎ ((role_of new.frames n ≡ Free) × (old.place p ≡ Frame (record { 0 = n })))
     pub pointers : (n i m : ℕ) → Points old.frames n i m ↔ Points new.frames n i m
     pub total : new.slots.total ≡ old.slots.total
-    pub counts : (k : ℕ) → old.place (Object p) ≢ Slot (record { 0 = k }) → new.slots.count k ≡ old.slots.count k
-    pub left : (k : ℕ) → old.place (Object p) ≡ Slot (record { 0 = k }) → new.slots.count k ≡ 0
+    pub counts : (k : ℕ) → old.place p ≢ Slot (record { 0 = k }) → new.slots.count k ≡ old.slots.count k
+    pub left : (k : ℕ) → old.place p ≡ Slot (record { 0 = k }) → new.slots.count k ≡ 0
     pub bytes : (k : ℕ) → IsInUse new.slots k → new.slots.bytes k ≡ old.slots.bytes k

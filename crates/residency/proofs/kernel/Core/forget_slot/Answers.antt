@@ -1,14 +1,14 @@
-use Rattle.residency.{proofs.{Forgotten.{fit_forgotten_slot, forgets_slotted}, Homing.{Homes}, Names.{refl, ◌∙◌, arith, rules, Object, slots_of, place_of, is_touched}}, specs.Picture.{Picture, picture_of}}
+use Rattle.residency.{proofs.{Forgotten.{fit_forgotten_slot, forgets_slotted}, Homing.{Homes}, Names.{refl, ◌∙◌, arith, rules, slots_of, place_of, is_touched}}, specs.Picture.{Picture, picture_of}}
 use Rattle.residency.proofs.kernel.Core.forget_slot.Goals as goal
 
 pub release-requires : goal.release-requires
-release-requires g c = (let one = c.requires.fit.places.slotted (Object c.args.page) c.args.slot.0 c.requires.placed in omega (arith, one))
+release-requires g c = (let one = c.requires.fit.places.slotted c.args.page c.args.slot.0 c.requires.placed in omega (arith, one))
 
 pub returns : goal.returns
 returns g c =
     let old : Picture g.M.Levels.mode = picture_of c.args.self.now in
     let new : Picture g.M.Levels.mode = record old { slots = slots_of c.release.new.self; place = place_of c.set_place.new.self; touched = is_touched c.set_place.new.self } in
-    let homes : Homes old new (Object c.args.page) c.args.slot.0 = record {
+    let homes : Homes old new c.args.page c.args.slot.0 = record {
       was = c.requires.placed;
       frames = refl;
       slots = c.release.ensures.releases;

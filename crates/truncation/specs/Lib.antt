@@ -1,0 +1,4 @@
+pub mod Cuts
+pub mod Steps
+pub mod Drops
+pub mod Lengths
