@@ -6,7 +6,7 @@ ghost use Rattle.disk_model.specs.FileRecord.{is_lost, is_unsynced, has_succeede
 
 use crate::ghost_data::Log;
 use crate::sim_disk::parts;
-use crate::{DiskFault, SECTOR_BYTES, SectorDisk};
+use crate::{DiskFault, SECTOR_BYTES, SectorDisk, WriteZeros};
 use std::fs::File;
 use std::io;
 use std::marker::PhantomData;
@@ -215,3 +215,5 @@ impl<C: FileContents> SectorDisk for FileDisk<C> {
         answer(done)
     }
 }
+
+impl<C: FileContents> WriteZeros for FileDisk<C> {}

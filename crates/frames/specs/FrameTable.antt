@@ -27,6 +27,10 @@ count_of t n = slice_index_or t.counts n 0
 abbrev pub IsFrame : FrameTable → ℕ → Type 0
 IsFrame t n = n < frame_count t
 
+-- each frame has 4,096 bytes
+abbrev pub AreWhole : FrameTable → Type 0
+AreWhole t = (n : ℕ) → IsFrame t n → length (bytes_of t n) ≡ 4096
+
 -- the bytes of the zero page, and of each frame as it is handed out
 unfoldable pub zero_bytes : List ℕ
 zero_bytes = replicate 4096 0

@@ -1,6 +1,6 @@
 //! Frames in one block of memory. Free frames are chained through their own first four bytes, so no call but `new`
 //! takes memory, and each touches one frame.
-ghost use Rattle.std.specs.Prelude.{◌≡◌, ◌≢◌, ◌+◌, ◌<◌, ◌≤◌, ◌↔◌, IfOk, IfSome, IsNone, OnErr, IsErr, IsTrue};
+ghost use Rattle.std.specs.Prelude.{ℕ, ◌≡◌, ◌≢◌, ◌+◌, ◌<◌, ◌≤◌, ◌↔◌, [], length, slice_index_or, IfOk, IfSome, IsNone, OnErr, IsErr, IsTrue};
 ghost use Rattle.frames.specs.FrameTable.{zero_bytes};
 
 use crate::role::Role;
@@ -34,7 +34,7 @@ impl Model for Frames {
 impl Frames {
     ghost use Rattle.std.specs.Borrow.{sem};
     ghost use Rattle.frames.specs.declared.role.Role.TheVariants.{Free, Private};
-    ghost use Rattle.frames.specs.FrameTable.{frame_count, bytes_of, role_of, count_of, IsFrame, IsSound, IsFresh, IsFull, IsHeld, is_handed_out, Takes, Shares, Releases, with_bytes};
+    ghost use Rattle.frames.specs.FrameTable.{frame_count, bytes_of, role_of, count_of, AreWhole, IsFrame, IsSound, IsFresh, IsFull, IsHeld, is_handed_out, Takes, Shares, Releases, with_bytes};
     ghost use Rattle.frames.specs.Lending.{LendsFrame};
     ghost use Rattle.frames.specs.Chain.{IsAllTables};
     ghost use Rattle.vm_types.specs.Processes.{process_limit};
@@ -53,12 +53,13 @@ impl Frames {
         Ok(frames)
     }
 
-    /// The number of frames, 8 to 65,536. The second clause is what is true of memory at all times.
+    /// The number of frames, 8 to 65,536. The clauses `sound` and `whole` are what is true of memory at all times.
     pub fn len(&self) -> u32
         ensures count { result ≡ frame_count self.now }
         ensures sound { IsSound self.now }
+        ensures whole { AreWhole self.now }
     {
-        self.bytes.len() as u32
+        count_pages(&self.bytes) as u32
     }
 
     /// What frame `n` is used for.
@@ -203,4 +204,12 @@ fn clear(frame: &mut [u8; 4096])
     ensures { frame.new ≡ zero_bytes }
 {
     *frame = [0; 4096];
+}
+
+/// How many pages these are, each of which has 4,096 bytes.
+fn count_pages(pages: &[[u8; 4096]]) -> usize
+    ensures count { result ≡ length pages.now }
+    ensures whole { (n : ℕ) → n < length pages.now → length (slice_index_or pages.now n []) ≡ 4096 }
+{
+    pages.len()
 }

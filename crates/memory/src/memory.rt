@@ -39,7 +39,7 @@ impl<M: Levels> Model for Memory<M> {
 impl<M: Levels> Memory<M> {
     ghost use Rattle.std.specs.Borrow.{sem};
     ghost use Rattle.frames.specs.declared.role.Role.TheVariants.{Free, Private};
-    ghost use Rattle.frames.specs.FrameTable.{frame_count, bytes_of, count_of, IsSound, IsFresh, IsFull, IsHeld, is_handed_out, Takes, Shares, Releases, with_bytes};
+    ghost use Rattle.frames.specs.FrameTable.{frame_count, bytes_of, count_of, AreWhole, IsSound, IsFresh, IsFull, IsHeld, is_handed_out, Takes, Shares, Releases, with_bytes};
     ghost use Rattle.page_tables.specs.Tree.{IsSpare};
     ghost use Rattle.memory.specs.Kept.{IsLeafOf};
     ghost use Rattle.memory.specs.Lines.{line_place};
@@ -77,10 +77,11 @@ impl<M: Levels> Memory<M> {
         self.buffer.line(index)
     }
 
-    /// The number of frames, 8 to 65,536. The second clause is what is true of memory at all times.
+    /// The number of frames, 8 to 65,536. The clauses `sound` and `whole` are what is true of memory at all times.
     pub fn len(&self) -> u32
         ensures count { result ≡ frame_count self.now }
         ensures sound { IsSound self.now }
+        ensures whole { AreWhole self.now }
     {
         self.frames.len()
     }
