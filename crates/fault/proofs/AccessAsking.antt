@@ -7,7 +7,7 @@ use Rattle.fault.proofs.{Steps.{on_right}, Names.{otherwise, true_from_ne_false,
 use Rattle.fault.specs.{AccessAsking.{IsSectorOfItsSlot, IsSectorShown, AsksForPage}, Asking.{HasSwappable, MayAsk, AsksIfFull, AsksNoNew, AsksSlotsIf, IsSectorOfStoredPage, IsSectorOfPage}, Changes.{IsCalm, KeepsBare, KeepsSlotted, LinksTables, Moves}}
 use Rattle.{fault.specs.{Changes.{copied_frame, frame_behind, frame_of_place}, Wants.{LacksTable, RunsOut, ShowsFile, WantsTwo}}, vm_types.specs.declared.region.Backing.TheVariants.{Private}}
 use Rattle.vm_types.specs.declared.mode.Levels as Levels
-use Rattle.stores.specs.Store.{disk_of}
+use Rattle.sized_stores.specs.Store.{disk_of}
 
 -- an entry that names a slot as the seat of its page is one of a page that lies in a slot
 away_of : (e k : ℕ) → seat e ≡ Some (InSlot k) → is_swapped e ≡ true

@@ -1,11 +1,14 @@
 -- Memory after an access is a state of the flat model, where memory before it was one.
 use Rattle.fault.proofs.Names.{◌≡◌, ◌≢◌, ℕ, inl, inr, ◌⊎◌, true, false, List, Option, Some, None, refl, sym, ap, ◌∙◌, subst, eq-eqb, ne_eqb, cases_Bool, cases_eq, same_Some, is_some, ◌==◌, ◌&&◌, FilePage, ObjectPage, PageKey, and_from}
-use Rattle.fault.proofs.Names.{⊎_elim, record_of, object_of, File, Object, Backing, Anon, Shared, Common, with_shown_bytes, State, behind, copy_or_behind, or_zeros, shown, with_view, View, zero_page, Ghosts, IsPageOf, standing_page}
+use Rattle.fault.proofs.Names.{⊎_elim, record_of, object_of, File, Object, Backing, Anon, Shared, Common, with_shown_bytes, State, behind, copy_or_behind, or_zeros, shown, with_view, View, zero_page, Ghosts, IsPageOf, AnyStore}
 use Rattle.fault.proofs.Names.{bytes_of, SlotTable, Place, Home}
 use Rattle.fault.proofs.{Names.{Frame, Slot, Picture, view, is_live, held, bytes_at, IsFit, is_shared, ShowsPages, object_bytes, SameBeside, cases_page, by_page}, Storing.{view_own, views_others, held_own, views_file, held_else}}
 use Rattle.fault.{proofs.Storing.{held_written}, specs.{Changes.{KeepsSeen, KeepsSpaces}, Files.{IsBrought, Stays, Leaves, Comes, Blank, BringsPages}, Outcome.{Owns, MarksTouchedIn}, Shown.{AreBehind, AreOwnOrBehind, AreShown}}}
 use Rattle.vm_types.specs.declared.region.Backing.TheVariants.{Private}
 use Rattle.frames.specs.FrameTable as Frames
+use Rattle.residency.specs.Reading.{page_at_home}
+use Rattle.sized_stores.specs.Store.{disk_of}
+use Rattle.vm_types.specs.State.{home_page}
 
 -- the processes and the files of a state, without what each process sees and what is touched
 module _ {mode : ℕ} where
@@ -15,12 +18,12 @@ module _ {mode : ℕ} where
     pub objects : (p : ObjectPage) (bytes : List ℕ) → held c (Object p) ≡ Some bytes → or_zeros (s.objects p.object p.page) ≡ bytes
     pub stored : (p : ObjectPage) (bytes : List ℕ) → s.objects p.object p.page ≡ Some bytes → held c (Object p) ≡ Some bytes
     pub held : (p : FilePage) (bytes : List ℕ) → held c (File p) ≡ Some bytes → s.volatile p.file p.page ≡ bytes
-    pub clean : (p : FilePage) → s.touched p.file p.page ≡ false → IsPageOf c.files p.file p.page → s.volatile p.file p.page ≡ s.durable.pages p.file p.page
+    pub clean : (p : FilePage) → s.touched p.file p.page ≡ false → IsPageOf c.files p.file p.page → s.volatile p.file p.page ≡ home_page s p.file p.page
 
 module _ {mode : ℕ} where
   -- what is at home is as it is durable
-  abbrev pub IsHomeDurable : {D : Type 0} → Ghosts D → D → Picture mode → State → Type 0
-  IsHomeDurable g disk c s = (p : FilePage) → IsPageOf c.files p.file p.page → standing_page (g.sector_count disk) (g.content disk) p.file p.page ≡ s.durable.pages p.file p.page
+  abbrev pub IsHomeDurable : {D : Type 0} → Ghosts D → AnyStore D → Picture mode → State → Type 0
+  IsHomeDurable g store c s = (p : FilePage) → IsPageOf c.files p.file p.page → page_at_home g store p ≡ home_page s p.file p.page
 
 page_of_same : {mode : ℕ} (old new : Picture mode) (p : FilePage) → ((f : ℕ) → new.files f ≡ old.files f) → IsPageOf new.files p.file p.page → IsPageOf old.files p.file p.page
 page_of_same old new p files inside = (inside.0, sym (files p.file) ∙ inside.1, inside.2)
@@ -33,14 +36,14 @@ held_away c p bytes is home = let bad : None ≡ Some bytes = sym (ap (bytes_at 
 stored_at : {mode : ℕ} (c : Picture mode) (s : State) → ShowsPages c s → (p : ObjectPage) → c.touched (Object p) ≡ true → s.objects p.object p.page ≡ held c (Object p)
 stored_at c s shows p touched = (let at : object_bytes c p ≡ held c (Object p) = rw touched refl in shows.objects p ∙ at)
 
-module _ {mode : ℕ} {D : Type 0} (g : Ghosts D) (before after : D) (W : PageKey → Type 0) (old new : Picture mode) (s : State) (fit : IsFit new) (brings : BringsPages g before after W old new)
-    (spaces : KeepsSpaces old new) (kept : g.keeps_model after) (homes : IsHomeDurable g before old s) where
+module _ {mode : ℕ} {D : Type 0} (g : Ghosts D) (before after : AnyStore D) (W : PageKey → Type 0) (old new : Picture mode) (s : State) (fit : IsFit new) (brings : BringsPages g before after W old new)
+    (spaces : KeepsSpaces old new) (kept : g.keeps_model (disk_of after)) (homes : IsHomeDurable g before old s) where
   held_now : ShowsPages old s → (p : FilePage) (bytes : List ℕ) → held new (File p) ≡ Some bytes → IsBrought g before after W old new (File p) → s.volatile p.file p.page ≡ bytes
   held_now shows p bytes is (Stays same) = shows.held p bytes (sym same ∙ is)
   held_now shows p bytes is (Comes f read e among here untouched from) =
       let same : f ≡ p = (cc) in
       let inside = page_of_same old new p brings.files (fit.places.inside (File p) (held_away new (File p) bytes is)) in
-      shows.clean p untouched inside ∙ sym (homes p inside) ∙ ap (λ x. standing_page (g.sector_count before) (g.content before) x.file x.page) (sym same) ∙ sym (from kept) ∙ same_Some read bytes (sym here ∙ is)
+      shows.clean p untouched inside ∙ sym (homes p inside) ∙ ap (λ x. page_at_home g before x) (sym same) ∙ sym (from kept) ∙ same_Some read bytes (sym here ∙ is)
   held_now shows p bytes is (Leaves none untouched) = (cc)
   held_now shows p bytes is (Blank o e among here untouched) = (cc)
 

@@ -1,16 +1,16 @@
 -- How the steps of an access follow one another, and what a page of a file or an object leaves that is brought into memory.
 use Rattle.fault.proofs.{Asking.{asks_swap, no_new_frees}, Names.{◌≡◌, ◌≢◌, ℕ, false, inl, inr, ◌⊎◌, Option, Some, None, Result, Ok, Err, refl, sym, ap, ◌∙◌, subst, arith, ◌+◌, cases_eq, IfOk, IfErr, OnErr, OnOk, FilePage}}
-use Rattle.fault.proofs.Names.{ObjectPage, PageKey, File, Object, zero_page, FrameNo, Stall, SwapDevice, StoreDevice, Ghosts, Touches, Nothing, AsksOnly, AnyStore, IsReadyStore, files_of}
+use Rattle.fault.proofs.Names.{ObjectPage, PageKey, File, Object, zero_page, FrameNo, Stall, SwapDevice, StoreDevice, Ghosts, Touches, Nothing, AsksOnly, AnyStore, IsReadySized, files_of}
 use Rattle.fault.proofs.Names.{IsFull, bytes_of, role_of, Home, Frame, Slot, Place, Core, KeepsRolesBut, ComesIn, IsRefused, UsesSwap, Picture, picture_of, held, bytes_at, is_data, IsFit, Frees, ObtainsCached, KeepsPages, KeepsRest}
 use Rattle.fault.proofs.Names.{AsksSwap, StallCause, HasStallCause, ReadCause, HasReadCause, CountsNothing, ReadsStore, IsRead, KeepsFiles, BringsIn, trees_brought, entries_brought, views_brought, held_else, held_here, cases_page}
 use Rattle.fault.proofs.{Names.{one_frame, one_slot, NamesOnce, once_none, asks_none, asks_wider, asks_then, Swap, IsSectorOfSlot, IsSectorOfFreeSlot}, Steps.{no_table_then, no_table_freed, no_table_trees, rows_then, rows_freed, rows_trees, slotted_then}}
 use Rattle.fault.{proofs.Steps.{slotted_frees, spaces_then, room_then, seen_then, tables_then, bare_then, tables_same, spaces_freed, room_freed, seen_freed, tables_freed, bare_freed, device_then}, specs.Asking.{HasSwappable, MayAsk}}
 use Rattle.fault.proofs.{Names.{false_from_ne_true, ⊎_elim, rules}, Steps.{on_right}}
-use Rattle.fault.specs.{Asking.{AsksIfFull, AsksNoNew, IsSectorOfPage, IsSectorOfStoredPage}, Changes.{AddsNoTable, KeepsSpaces, KeepsTables, KeepsRows, KeepsRoom, KeepsSeen, KeepsBare, KeepsSlotted, Moves, MarksTouched, IsCalm}}
+use Rattle.fault.specs.{Asking.{AsksIfFull, AsksNoNew, IsSectorOfPage, IsSectorOfStoredPage}, Changes.{AddsNoTable, KeepsSpaces, KeepsTables, KeepsRows, KeepsRoom, KeepsSeen, KeepsBare, KeepsSlotted, KeepsTouched, Moves, MarksTouched, IsCalm}}
 use Rattle.fault.specs.{Files.{IsInStore, IsBrought, Stays, Leaves, Comes, Blank, BringsPages, Proceeds, BringsFiles}, PagingIn.{PagesIn}}
 use Rattle.fault.proofs.{Chances.{chance_came}, Names.{IsLeftBut}}
 use Rattle.vm_types.specs.declared.mode.Levels as Levels
-use Rattle.stores.specs.Store.{directory_in, disk_of, files_in}
+use Rattle.sized_stores.specs.Store.{directory_in, disk_of, files_in, kept_of}
 
 pub ok_then : (P Q : FrameNo → Type 0) (r : Result FrameNo Stall) → ((n : FrameNo) → P n → Q n) → IfOk r P → IfOk r Q
 ok_then P Q (Ok n) each is = each n is
@@ -88,17 +88,18 @@ module _ {D : Type 0} (g : Ghosts D) where
         failures = omega arith;
         touches = λ k. touches_none (disk_of old);
         same = refl;
+        sizes = refl;
       })
 
 module _ {mode : ℕ} {D : Type 0} (g : Ghosts D) where
   -- no file page changed but those that went home
-  pub brings_none : (before after : D) (W : PageKey → Type 0) (a b : Picture mode) → KeepsFiles a b → BringsPages g before after W a b
+  pub brings_none : (before after : AnyStore D) (W : PageKey → Type 0) (a b : Picture mode) → KeepsFiles a b → BringsPages g before after W a b
   brings_none before after W a b kept = record {
     each = λ p. ⊎_elim Stays (λ home. Leaves home.0 home.1) (kept.held p);
     files = kept.files;
   }
 
-  joined : (before after : D) (W V : PageKey → Type 0) (a b c : Picture mode) (wider : (p : PageKey) → W p → V p) (touched : (p : PageKey) → b.touched p ≡ a.touched p) (p : PageKey)
+  joined : (before after : AnyStore D) (W V : PageKey → Type 0) (a b c : Picture mode) (wider : (p : PageKey) → W p → V p) (touched : (p : PageKey) → b.touched p ≡ a.touched p) (p : PageKey)
       → (held b p ≡ held a p) ⊎ ((held b p ≡ None) × (a.touched p ≡ false)) → IsBrought g before after W b c p → IsBrought g before after V a c p
   joined before after W V a b c wider touched p first (Leaves none untouched) = Leaves none (sym (touched p) ∙ untouched)
   joined before after W V a b c wider touched p first (Comes f bytes e is here untouched read) = Comes f bytes e (wider p is) here (sym (touched p) ∙ untouched) read
@@ -107,13 +108,13 @@ module _ {mode : ℕ} {D : Type 0} (g : Ghosts D) where
   joined before after W V a b c wider touched p (inr home) (Stays same) = Leaves (same ∙ home.0) home.1
 
   -- some went home before others were read
-  pub brings_after : (before after : D) (W V : PageKey → Type 0) (a b c : Picture mode) → ((p : PageKey) → W p → V p) → KeepsFiles a b → BringsPages g before after W b c → BringsPages g before after V a c
+  pub brings_after : (before after : AnyStore D) (W V : PageKey → Type 0) (a b c : Picture mode) → ((p : PageKey) → W p → V p) → KeepsFiles a b → BringsPages g before after W b c → BringsPages g before after V a c
   brings_after before after W V a b c wider files brings = record {
     each = λ p. joined before after W V a b c wider files.touched p (files.held p) (brings.each p);
     files = λ f. brings.files f ∙ files.files f;
   }
 
-  later : (before after : D) (W V : PageKey → Type 0) (a b c : Picture mode) (wider : (p : PageKey) → W p → V p) (touched : (p : PageKey) → b.touched p ≡ a.touched p) (p : PageKey)
+  later : (before after : AnyStore D) (W V : PageKey → Type 0) (a b c : Picture mode) (wider : (p : PageKey) → W p → V p) (touched : (p : PageKey) → b.touched p ≡ a.touched p) (p : PageKey)
       → (held c p ≡ held b p) ⊎ ((held c p ≡ None) × (b.touched p ≡ false)) → IsBrought g before after W a b p → IsBrought g before after V a c p
   later before after W V a b c wider touched p (inr home) brought = Leaves home.0 (sym (touched p) ∙ home.1)
   later before after W V a b c wider touched p (inl e) (Stays same) = Stays (e ∙ same)
@@ -122,7 +123,7 @@ module _ {mode : ℕ} {D : Type 0} (g : Ghosts D) where
   later before after W V a b c wider touched p (inl e) (Blank o k is here untouched) = Blank o k (wider p is) (e ∙ here) untouched
 
   -- or after it
-  pub brings_then : (before after : D) (W V : PageKey → Type 0) (a b c : Picture mode) → ((p : PageKey) → W p → V p) → ((p : PageKey) → b.touched p ≡ a.touched p) → BringsPages g before after W a b
+  pub brings_then : (before after : AnyStore D) (W V : PageKey → Type 0) (a b c : Picture mode) → ((p : PageKey) → W p → V p) → ((p : PageKey) → b.touched p ≡ a.touched p) → BringsPages g before after W a b
       → ((p : PageKey) → (held c p ≡ held b p) ⊎ ((held c p ≡ None) × (b.touched p ≡ false))) → ((f : ℕ) → c.files f ≡ b.files f) → BringsPages g before after V a c
   brings_then before after W V a b c wider touched brings each files = record {
     each = λ p. later before after W V a b c wider touched p (each p) (brings.each p);
@@ -130,7 +131,7 @@ module _ {mode : ℕ} {D : Type 0} (g : Ghosts D) where
   }
 
   -- a page came into a frame that was obtained
-  brought_in : (before after : D) (old new : Picture mode) (page : PageKey) (n : ℕ) → ObtainsCached old new page n → IsBrought g before after (λ y. y ≡ page) old new page
+  brought_in : (before after : AnyStore D) (old new : Picture mode) (page : PageKey) (n : ℕ) → ObtainsCached old new page n → IsBrought g before after (λ y. y ≡ page) old new page
       → BringsPages g before after (λ p. p ≡ page) old new
   brought_in before after old new page n obtains here = record {
     each = λ p. elim (cases_page p page) [
@@ -142,14 +143,14 @@ module _ {mode : ℕ} {D : Type 0} (g : Ghosts D) where
   }
 
   -- from its home
-  pub brings_home_of : (before after : D) (old new : Picture mode) (page : FilePage) (r : Result FrameNo Stall) → IfOk r (λ n. ObtainsCached old new (File page) n.0) → OnErr r (Frees old new None) → old.touched (File page) ≡ false
+  pub brings_home_of : (before after : AnyStore D) (old new : Picture mode) (page : FilePage) (r : Result FrameNo Stall) → IfOk r (λ n. ObtainsCached old new (File page) n.0) → OnErr r (Frees old new None) → old.touched (File page) ≡ false
       → IfOk r (λ n. IsRead g before after page (bytes_of new.frames n.0)) → BringsPages g before after (λ p. p ≡ File page) old new
   brings_home_of before after old new page (Ok n) obtains frees untouched read = brought_in before after old new (File page) n.0 obtains
       (Comes page (bytes_of new.frames n.0) refl refl (held_here obtains.found new (File page) n.0 obtains.fit obtains.brings) untouched read)
   brings_home_of before after old new page (Err s) obtains frees untouched read = brings_none before after (λ p. p ≡ File page) old new frees.pages.files
 
   -- as zeros
-  pub brings_blank_of : (before after : D) (old new : Picture mode) (page : ObjectPage) (r : Result FrameNo Stall) → IfOk r (λ n. ObtainsCached old new (Object page) n.0) → OnErr r (Frees old new None) → old.touched (Object page) ≡ false
+  pub brings_blank_of : (before after : AnyStore D) (old new : Picture mode) (page : ObjectPage) (r : Result FrameNo Stall) → IfOk r (λ n. ObtainsCached old new (Object page) n.0) → OnErr r (Frees old new None) → old.touched (Object page) ≡ false
       → IfOk r (λ n. bytes_of new.frames n.0 ≡ zero_page) → BringsPages g before after (λ p. p ≡ Object page) old new
   brings_blank_of before after old new page (Ok n) obtains frees untouched blank = brought_in before after old new (Object page) n.0 obtains
       (Blank page refl refl (held_here obtains.found new (Object page) n.0 obtains.fit obtains.brings ∙ ap (λ w. Some w) blank) untouched)
@@ -160,7 +161,7 @@ module _ {mode : ℕ} {D : Type 0} (g : Ghosts D) where
   held_slot c p k at = ap (λ y. bytes_at c.frames c.slots y) at
 
   -- from its slot
-  pub brings_slot_of : (before after : D) (old new : Picture mode) (page : PageKey) (k : ℕ) (r : Result FrameNo Stall) → IfOk r (λ n. ObtainsCached old new page n.0) → OnErr r (Frees old new None)
+  pub brings_slot_of : (before after : AnyStore D) (old new : Picture mode) (page : PageKey) (k : ℕ) (r : Result FrameNo Stall) → IfOk r (λ n. ObtainsCached old new page n.0) → OnErr r (Frees old new None)
       → old.place page ≡ Slot (record { 0 = k }) → IfOk r (λ n. bytes_of new.frames n.0 ≡ old.slots.bytes k) → BringsPages g before after (λ p. p ≡ page) old new
   brings_slot_of before after old new page k (Ok n) obtains frees at same = brought_in before after old new page n.0 obtains
       (Stays (held_here obtains.found new page n.0 obtains.fit obtains.brings ∙ ap (λ w. Some w) same ∙ sym (held_slot old page k at)))
@@ -212,10 +213,17 @@ pub held_marked : {mode : ℕ} (old new : Picture mode) (touched : PageKey) → 
 unfolding held
 held_marked old new touched marks slots p = ap (bytes_at new.frames new.slots) (marks.place p) ∙ held_at old new p (old.place p) refl (marks.place p) (marks.bytes p) slots
 
+-- and all that were touched still are
+pub still_touched : {mode : ℕ} (old new : Picture mode) (page : PageKey) → MarksTouched old new page → KeepsTouched old new
+still_touched old new page marks p touched = elim (cases_page p page) [
+  | inl e ↦ ap new.touched e ∙ marks.touched
+  | inr other ↦ marks.others p other ∙ touched
+]
+
 module _ {D : Type 0} (g : Ghosts D) where
   -- reading the store changes no file
   pub files_read : (old new : AnyStore D) → ReadsStore g old new → (f : ℕ) → files_of new f ≡ files_of old f
-  files_read old new reads f = ap (λ k. files_in (directory_in k) f) reads.same
+  files_read old new reads f = ap (λ d. files_in d f) (ap (λ k. directory_in k new.sizes.items) reads.same ∙ ap (λ z. directory_in (kept_of old) z) reads.sizes)
 
 module _ {M : Type 0} {m : Levels.Ghosts M} {D : Type 0} (g : Ghosts D) where
   module _ {E : Type 0} (h : Ghosts E) where
@@ -229,14 +237,14 @@ module _ {M : Type 0} {m : Levels.Ghosts M} {D : Type 0} (g : Ghosts D) where
     -- or after
     pub proceeds_then : (a b c : Core D E M m) → Proceeds g h a b → Moves h b c → Proceeds g h a c
     proceeds_then a b c p q =
-        let ready = subst (λ (s : AnyStore D). IsReadyStore g s) (sym q.store) p.ready in
+        let ready = subst (λ (s : AnyStore D). IsReadySized g s) (sym q.store) p.ready in
         let tables = tables_then (picture_of a) (picture_of b) (picture_of c) p.spaces.root p.tables q.tables in
         let reads = subst (λ (s : AnyStore D). ReadsStore g a.store s) (sym q.store) p.reads in
         search (rules, spaces_then, room_then, device_then)
 
-    pub proceeds_moves : (a b : Core D E M m) → IsReadyStore g a.store → Moves h a b → Proceeds g h a b
+    pub proceeds_moves : (a b : Core D E M m) → IsReadySized g a.store → Moves h a b → Proceeds g h a b
     proceeds_moves a b ready q =
-        let ready = subst (λ (s : AnyStore D). IsReadyStore g s) (sym q.store) ready in
+        let ready = subst (λ (s : AnyStore D). IsReadySized g s) (sym q.store) ready in
         let reads = reads_none g a.store b.store q.store in
         search rules
 
@@ -328,7 +336,7 @@ module _ {mode : ℕ} (old new : Picture mode) (page : PageKey) (fit : IsFit old
 
 -- such a page was brought in, or wasn't, and nothing read from the store
 module _ {M : Type 0} {m : Levels.Ghosts M} {D E : Type 0} (g : Ghosts D) (h : Ghosts E) {before after : Core D E M m} {page : PageKey} {r : Result FrameNo Stall} where
-  pub pages_in_beside : IsFit (picture_of before) → IsReadyStore g before.store → ((k : FrameNo) → (picture_of before).place page ≢ Frame k) → ComesIn before after page r → KeepsRest before after → (IsFull before.frames → IfOk r (IsLeftBut before after None))
+  pub pages_in_beside : IsFit (picture_of before) → IsReadySized g before.store → ((k : FrameNo) → (picture_of before).place page ≢ Frame k) → ComesIn before after page r → KeepsRest before after → (IsFull before.frames → IfOk r (IsLeftBut before after None))
       → {also : ℕ → Type 0} → UsesSwap h before after also r → IsRefused h before after None r → AsksIfFull h before after None (IsSectorOfPage (picture_of before) page)
       → BringsFiles g h (λ p. p ≡ page) before after → PagesIn g h before after page r
   pages_in_beside fit store away comes rest aged uses refused asks brings =
@@ -336,7 +344,7 @@ module _ {M : Type 0} {m : Levels.Ghosts M} {D E : Type 0} (g : Ghosts D) (h : G
       let placed = placed_in comes in
       let only = only_in comes in
       let chance = chance_came before after page r comes.brought aged in
-      let ready = subst (λ (s : AnyStore D). IsReadyStore g s) (sym rest.store) store in
+      let ready = subst (λ (s : AnyStore D). IsReadySized g s) (sym rest.store) store in
       let reads = reads_none g before.store after.store rest.store in
       let asks_store = store_same g (IsSectorOfStoredPage before.store page) before.store after.store rest.store in
       let once_store = once_same g (IsSectorOfStoredPage before.store page) before.store after.store rest.store in

@@ -6,7 +6,7 @@ use Rattle.fault.specs.{Changes.{IsCalm, KeepsSeen, KeepsSpaces, KeepsBare, Link
 use Rattle.fault.{specs.Granted.{IsReadyAt}, proofs.{Steps.{seen_then, files_same}, Wanted.{nowhere_keeps, unlinked_keeps, page_there, there_or, reads_home, whole_or, shows_back}}}
 use Rattle.fault.proofs.{SwapSteps.{zero_here}, Names.{⊎_elim, otherwise, GivesForTables, is_swapped, IsWhole, page_entry-missing, entry-of}, AccessSteps.{brings_after, brings_then, cause_then, no_store, cause_of, keeps_seen}, Settled.{ready_after}}
 use Rattle.vm_types.specs.declared.mode.Levels as Levels
-use Rattle.stores.specs.Store.{disk_of}
+use Rattle.sized_stores.specs.Store.{disk_of}
 
 -- The file page of its page was brought into a frame.
 module _ {M : Type 0} {m : Levels.Ghosts M} {D E : Type 0} (old mid : Core D E M m) (pid page : ℕ) (p : PageKey) (shows : ShowsFile (picture_of old) pid page p) where
@@ -34,7 +34,7 @@ module _ {M : Type 0} {m : Levels.Ghosts M} {D E : Type 0} (old mid : Core D E M
     pub brings_wider : BringsFiles g h (λ q. q ≡ p) old mid → BringsFiles g h (ShowsFile (picture_of old) pid page) old mid
     brings_wider brings kept =
         let W : PageKey → Type 0 = λ q. q ≡ p in
-        brings_after g (disk_of old.store) (disk_of mid.store) W (ShowsFile (picture_of old) pid page) (picture_of old) (picture_of old) (picture_of mid) only (files_same (picture_of old)) (brings kept)
+        brings_after g old.store mid.store W (ShowsFile (picture_of old) pid page) (picture_of old) (picture_of old) (picture_of mid) only (files_same (picture_of old)) (brings kept)
 
     -- no other came after it
     pub brings_on : (new : Core D E M m) → BringsFiles g h (λ q. q ≡ p) old mid → KeepsSeen (picture_of old) (picture_of mid) → new.store ≡ mid.store → UsesDevice h mid.swap.pages.disk new.swap.pages.disk
@@ -43,8 +43,8 @@ module _ {M : Type 0} {m : Levels.Ghosts M} {D E : Type 0} (old mid : Core D E M
     brings_on new brings keeps same device each files kept =
         let W : PageKey → Type 0 = λ q. q ≡ p in
         let V = ShowsFile (picture_of old) pid page in
-        subst (λ (s : AnyStore D). BringsPages g (disk_of old.store) (disk_of s) V (picture_of old) (picture_of new)) (sym same)
-        (brings_then g (disk_of old.store) (disk_of mid.store) W V (picture_of old) (picture_of mid) (picture_of new) only keeps.touched (brings (device.kept kept)) each files)
+        subst (λ (s : AnyStore D). BringsPages g old.store s V (picture_of old) (picture_of new)) (sym same)
+        (brings_then g old.store mid.store W V (picture_of old) (picture_of mid) (picture_of new) only keeps.touched (brings (device.kept kept)) each files)
 
     -- it wasn't brought
     pub stalled_away : (access : Access) (stall : Stall) → IsFit (picture_of old) → KeepsSeen (picture_of old) (picture_of mid) → ((n : FrameNo) → (picture_of old).place p ≡ Frame n → ⊥)
@@ -140,8 +140,8 @@ module _ {M : Type 0} {m : Levels.Ghosts M} {D E : Type 0} (old mid : Core D E M
     brings_back new brings kept =
         let W = ShowsFile (picture_of mid) pid page in
         let V = ShowsFile (picture_of old) pid page in
-        subst (λ (s : AnyStore D). BringsPages g (disk_of s) (disk_of new.store) V (picture_of old) (picture_of new)) moves.store
-        (brings_after g (disk_of mid.store) (disk_of new.store) W V (picture_of old) (picture_of mid) (picture_of new) shows_before pages.files (brings kept))
+        subst (λ (s : AnyStore D). BringsPages g s new.store V (picture_of old) (picture_of new)) moves.store
+        (brings_after g mid.store new.store W V (picture_of old) (picture_of mid) (picture_of new) shows_before pages.files (brings kept))
 
     pub stalled_back : IsWhole (picture_of mid) pid page → GivesForTables (picture_of old) (picture_of mid) None → LinksTables (picture_of old) (picture_of mid) pid page → (new : Core D E M m) (access : Access) (r : Result FrameNo Stall) → mid.refused.number ≡ old.refused.number → h.failures mid.swap.pages.disk ≡ h.failures old.swap.pages.disk
         → IfErr r (IsStalled g h mid new pid page access) → IfErr r (IsStalled g h old new pid page access)

@@ -1,6 +1,6 @@
 -- What the proofs of this crate cite of the crates below it and of the standard library: `use Rattle.fault.proofs.Names.{..}`.
 pub use Rattle.disk_model.{proofs.{Moments.{asks_once, asks_wider, asks_none, asks_then}, Naming.{once_none, once_wider}}, specs.{Moments.{Nothing, AsksOnly, Touches}, Stop.{NamesOnce}, declared.sector_disk.SectorDisk.{Ghosts}}}
-pub use Rattle.{stores.specs.{Images.{standing_page}, Store.{IsSectorOf, IsReadyStore, files_of}, declared.store.Store.{Store as AnyStore}}, file_store.specs.Standing.{IsPageOf, AreBounded}}
+pub use Rattle.{sized_stores.specs.{Store.{IsSectorOf, IsReadySized, directory_of, files_in, files_of}, declared.store.SizedStore.{SizedStore as AnyStore}}, file_store.specs.Standing.{IsPageOf, AreBounded}}
 pub use Rattle.frames.proofs.FrameLemmas.{with_bytes-same, with_bytes-others}
 pub use Rattle.frames.specs.{FrameTable.{IsFull, frame_count, bytes_of, role_of, IsSound, count_of, IsFrame, FrameTable, Releases, is_handed_out, IsHeld, with_bytes, Takes, SameButFor}, declared.role.Role.{Role, TheVariants.{Private}}}
 pub use Rattle.{frames.specs.declared.role.Role.TheVariants.{Free, Table, Cache}, memory.proofs.Walks.{translated-entry}, page_cache.specs.{CacheTable.{is_touched, place_of}, declared.place.Place.{Place, TheVariants.{Frame, Home, Slot}}}}

@@ -1,24 +1,25 @@
 -- What is left of an access to a page, told from its steps, in each way of serving it.
 use Rattle.fault.proofs.{AccessAsking.{asks_brought, asks_calm, asks_less, asks_same, asks_still, now_out}, AccessSlotted.{slotted_brought, slotted_on, slotted_own, slotted_same}, AccessSteps.{brings_none, proceeds_moves, proceeds_then}}
 use Rattle.fault.proofs.{AccessSteps.{counts_calm, files_read}, Entered.{read_ready, read_entered}, Linked.{brings_on, brings_wider, calm_then, read_then, stalled_away, open_still}, Names.{◌≡◌, ◌/◌, ℕ, false, inl, ◌⊎◌, Option, None}}
-use Rattle.fault.proofs.Names.{Result, Ok, Err, refl, ◌∙◌, ◌≢◌, Bool, true, Some, subst, IsErrAnd, Access, FrameNo, Phys, PageKey, Stall, Attr, Width, Store, stands_on, lets, Ghosts, IsReadyStore, IsFull, IsReady, Frame, Core, Picture}
+use Rattle.fault.proofs.Names.{Result, Ok, Err, refl, ◌∙◌, ◌≢◌, Bool, true, Some, subst, IsErrAnd, Access, FrameNo, Phys, PageKey, Stall, Attr, Width, Store, stands_on, lets, Ghosts, IsReadySized, IsFull, IsReady, Frame, Core, Picture}
 use Rattle.fault.proofs.{Names.{picture_of, held, entry, IsFit, KeepsFiles, seat}, Settled.{none_same}, Steps.{no_table_calm, no_table_none, no_table_then, moves_entered, moves_none, stands_kept, slotted_calm, files_same}}
 use Rattle.fault.{proofs.{Wanted.{calm_same, page_there, shows_file, page_inside, err_is}, WaySteps.{links_no_table}}, specs.{AccessAsking.{IsSectorOfItsSlot}, Asking.{AsksIfFull}, Changes.{AddsNoTable, Enters, IsCalm, IsThatPage}}}
-use Rattle.fault.specs.{Changes.{KeepsOtherViews, KeepsSlotted, Moves, StandsAt}, Found.{IsOpenTo}, FramesShown.{ShowsFrame}, Outcome.{IsStalled, IsWalked, Stalls}, PagingIn.{PagesIn, MayBring}, Serving.{Reaches, Serves, Tends}}
+use Rattle.fault.specs.{Changes.{KeepsOtherViews, KeepsSlotted, KeepsTouched, Moves, StandsAt}, Found.{IsOpenTo}, FramesShown.{ShowsFrame}, Outcome.{IsStalled, IsWalked, Stalls}, PagingIn.{PagesIn, MayBring}, Serving.{Reaches, Serves, Tends}}
 use Rattle.fault.specs.{Leaves.{IsFullEntry}, SpotServing.{MayServeAt}, Wants.{ShowsFile, Wants}, declared.{refusal.AccessRefusal.{AccessRefusal}, spot.Spot.{Spot}}}
 use Rattle.vm_types.specs.declared.mode.Levels as Levels
 use Rattle.fault.specs.declared.refusal.AccessRefusal.TheVariants as Refusal
 use Rattle.fault.proofs.Chances.{others_same}
-use Rattle.stores.specs.Store.{disk_of}
+use Rattle.sized_stores.specs.Store.{disk_of}
 
 module _ {M : Type 0} {m : Levels.Ghosts M} {D E : Type 0} (g : Ghosts D) (h : Ghosts E) where
   -- nothing changed
-  pub tends_none : (core : Core D E M m) (pid page : ℕ) (access : Access) → IsFit (picture_of core) → IsReadyStore g core.store → IsReady h core.swap → Tends g h core core pid page access
+  pub tends_none : (core : Core D E M m) (pid page : ℕ) (access : Access) → IsFit (picture_of core) → IsReadySized g core.store → IsReady h core.swap → Tends g h core core pid page access
   tends_none core pid page access fit store swap =
       let c : Picture m.mode = picture_of core in
       record {
         proceeds = proceeds_moves g h core core store (moves_none h core fit swap);
-        brings = λ kept. brings_none g (disk_of core.store) (disk_of core.store) (ShowsFile c pid page) c c (files_same c);
+        brings = λ kept. brings_none g core.store core.store (ShowsFile c pid page) c c (files_same c);
+        touches = λ p touched. touched;
         others = λ q k other. refl;
         slotted = slotted_same (ShowsFile c pid page) (IsThatPage pid page) c;
         calm = λ none. calm_same core pid page;
@@ -29,11 +30,12 @@ module _ {M : Type 0} {m : Levels.Ghosts M} {D E : Type 0} (g : Ghosts D) (h : G
       }
 
   -- the page's entry was made over a frame that was there
-  pub tends_entered : (old new : Core D E M m) (pid page : ℕ) (access : Access) → IsReadyStore g old.store → IsReady h old.swap → Enters old new pid page → KeepsFiles (picture_of old) (picture_of new)
+  pub tends_entered : (old new : Core D E M m) (pid page : ℕ) (access : Access) → IsReadySized g old.store → IsReady h old.swap → Enters old new pid page → KeepsFiles (picture_of old) (picture_of new)
       → Tends g h old new pid page access
   tends_entered old new pid page access store swap enters files = record {
     proceeds = proceeds_moves g h old new store (moves_entered h old new pid page swap enters);
-    brings = λ kept. brings_none g (disk_of old.store) (disk_of new.store) (ShowsFile (picture_of old) pid page) (picture_of old) (picture_of new) files;
+    brings = λ kept. brings_none g old.store new.store (ShowsFile (picture_of old) pid page) (picture_of old) (picture_of new) files;
+    touches = λ p touched. files.touched p ∙ touched;
     others = λ q k other. enters.views q k;
     slotted = slotted_calm (ShowsFile (picture_of old) pid page) old new pid page enters.calm;
     calm = λ none. enters.calm;
@@ -44,13 +46,14 @@ module _ {M : Type 0} {m : Levels.Ghosts M} {D E : Type 0} (g : Ghosts D) (h : G
   }
 
   -- it has a frame of its own, and the store was left alone
-  pub tends_moved : (old new : Core D E M m) (pid page : ℕ) (access : Access) (keep : Option FrameNo) (few : ℕ → Type 0) → IsReadyStore g old.store → Moves h old new → KeepsFiles (picture_of old) (picture_of new)
+  pub tends_moved : (old new : Core D E M m) (pid page : ℕ) (access : Access) (keep : Option FrameNo) (few : ℕ → Type 0) → IsReadySized g old.store → Moves h old new → KeepsFiles (picture_of old) (picture_of new)
       → KeepsOtherViews (picture_of old) (picture_of new) pid page → KeepsSlotted (λ p. ⊥) (IsThatPage pid page) (picture_of old) (picture_of new)
       → ((Wants (picture_of old) pid page access → ⊥) → IsCalm old new pid page) → ((k : ℕ) → few k → IsSectorOfItsSlot (picture_of old) pid page k) → AsksIfFull h old new keep few
       → AddsNoTable (picture_of old) (picture_of new) → Tends g h old new pid page access
   tends_moved old new pid page access keep few store moves files others slotted calm less asks none = record {
     proceeds = proceeds_moves g h old new store moves;
-    brings = λ kept. brings_none g (disk_of old.store) (disk_of new.store) (ShowsFile (picture_of old) pid page) (picture_of old) (picture_of new) files;
+    brings = λ kept. brings_none g old.store new.store (ShowsFile (picture_of old) pid page) (picture_of old) (picture_of new) files;
+    touches = λ p touched. files.touched p ∙ touched;
     others = others;
     slotted = slotted_own (picture_of old) (picture_of new) pid page slotted;
     calm = calm;
@@ -67,6 +70,7 @@ module _ {M : Type 0} {m : Levels.Ghosts M} {D E : Type 0} (g : Ghosts D) (h : G
       tends_away = record {
         proceeds = first.proceeds;
         brings = brings_wider old mid pid page p shows g h first.brings;
+        touches = λ q touched. first.keeps.touched q ∙ touched;
         others = λ q k other. first.keeps.views q k;
         slotted = slotted_brought (picture_of old) (picture_of mid) pid page p shows first.slotted;
         calm = λ unwanted. (let there = page_there (picture_of old) pid page access p shows unwanted in absurd (idle there.0 there.1).1);
@@ -83,13 +87,14 @@ module _ {M : Type 0} {m : Levels.Ghosts M} {D E : Type 0} (g : Ghosts D) (h : G
     -- then the page's entry was made over it
     pub tends_shown : (new : Core D E M m) (r : Result FrameNo Stall) → PagesIn g h old mid p r → ((n : FrameNo) → (picture_of old).place p ≡ Frame n → mid ≡ old) → Enters mid new pid page
         → ((q : PageKey) → (held (picture_of new) q ≡ held (picture_of mid) q) ⊎ ((held (picture_of new) q ≡ None) × ((picture_of mid).touched q ≡ false)))
-        → ((f : ℕ) → (picture_of new).files f ≡ (picture_of mid).files f) → Tends g h old new pid page access
-    tends_shown new r first idle enters held files =
+        → ((f : ℕ) → (picture_of new).files f ≡ (picture_of mid).files f) → KeepsTouched (picture_of mid) (picture_of new) → Tends g h old new pid page access
+    tends_shown new r first idle enters held files touches =
         let moves = moves_entered h mid new pid page first.proceeds.swap enters in
         let none = no_table_then (picture_of old) (picture_of mid) (picture_of new) first.no_table (no_table_calm mid new pid page enters.calm) in
         record {
           proceeds = proceeds_then g h old mid new first.proceeds moves;
           brings = brings_on old mid pid page p shows g h new first.brings first.keeps enters.calm.store moves.device held files;
+          touches = λ q touched. touches q (first.keeps.touched q ∙ touched);
           others = λ q k other. enters.views q k ∙ first.keeps.views q k;
           slotted = slotted_on (picture_of old) (picture_of mid) pid page (picture_of new) p shows first.slotted (slotted_calm (λ p. ⊥) mid new pid page enters.calm);
           calm = calm_then old mid pid page p shows idle new access (λ none. enters.calm);

@@ -8,7 +8,7 @@ use Rattle.vm_types.specs.declared.object.PageKey.TheVariants.{File}
 use Rattle.disk_model.specs.declared.sector_disk.SectorDisk.{Ghosts}
 use Rattle.disk_model.specs.Moments.{AsksOnly}
 use Rattle.disk_model.specs.Stop.{NamesOnce}
-use Rattle.stores.specs.Store.{IsSectorOf, disk_of}
+use Rattle.sized_stores.specs.Store.{IsSectorOf, disk_of}
 use Rattle.residency.specs.declared.kernel.Core.{Core}
 use Rattle.residency.specs.Picture.{Picture, picture_of}
 use Rattle.fault.specs.Asking.{AsksSlotsIf, IsSectorOfCopy, IsSectorOfPage}

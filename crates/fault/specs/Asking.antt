@@ -9,8 +9,8 @@ use Rattle.vm_types.specs.declared.number.SlotNo.{SlotNo}
 use Rattle.disk_model.specs.declared.sector_disk.SectorDisk.{Ghosts}
 use Rattle.disk_model.specs.Moments.{AsksOnly}
 use Rattle.frames.specs.FrameTable.{IsFull}
-use Rattle.stores.specs.declared.store.Store.{Store}
-use Rattle.stores.specs.Store.{IsSectorOf}
+use Rattle.sized_stores.specs.declared.store.SizedStore.{SizedStore}
+use Rattle.sized_stores.specs.Store.{IsSectorOf}
 use Rattle.page_cache.specs.declared.place.Place.TheVariants.{Slot}
 use Rattle.swap.specs.Slots.{IsSectorOfSlot, IsSectorOfFreeSlot}
 use Rattle.residency.specs.declared.kernel.Core.{Core}
@@ -43,7 +43,7 @@ module _ {mode : ℕ} where
 
 module _ {D : Type 0} where
   -- a sector in which a page stands in the store, if it is one of a file
-  abbrev pub IsSectorOfStoredPage : Store D → PageKey → ℕ → Type 0
+  abbrev pub IsSectorOfStoredPage : SizedStore D → PageKey → ℕ → Type 0
   IsSectorOfStoredPage store p k = (f : FilePage) × (p ≡ File f) × IsSectorOf store f k
 
 module _ {M : Type 0} {m : Levels.Ghosts M} {D E : Type 0} (h : Ghosts E) where

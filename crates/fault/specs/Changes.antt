@@ -99,6 +99,11 @@ module _ {mode : ℕ} where
     pub frames : frame_count new.frames ≡ frame_count old.frames
     pub slots : new.slots.total ≡ old.slots.total
 
+-- each page of a file or an object that was touched still is touched
+module _ {mode : ℕ} where
+  abbrev pub KeepsTouched : Picture mode → Picture mode → Type 0
+  KeepsTouched old new = (p : PageKey) → old.touched p ≡ true → new.touched p ≡ true
+
 -- every page is seen as it was
 module _ {mode : ℕ} where
   abbrev pub KeepsViews : Picture mode → Picture mode → Type 0

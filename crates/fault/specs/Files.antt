@@ -7,7 +7,8 @@ use Rattle.vm_types.specs.declared.object.PageKey.{PageKey}
 use Rattle.vm_types.specs.declared.object.PageKey.TheVariants.{File, Object}
 use Rattle.vm_types.specs.View.{zero_page}
 use Rattle.disk_model.specs.declared.sector_disk.SectorDisk.{Ghosts}
-use Rattle.stores.specs.Store.{IsReadyStore, disk_of}
+use Rattle.sized_stores.specs.Store.{IsReadySized}
+use Rattle.sized_stores.specs.declared.store.SizedStore.{SizedStore}
 use Rattle.swap.specs.Slots.{IsReady}
 use Rattle.page_cache.specs.declared.place.Place.TheVariants.{Home}
 use Rattle.residency.specs.declared.kernel.Core.{Core}
@@ -25,13 +26,13 @@ module _ {mode : ℕ} where
 module _ {mode : ℕ} {D : Type 0} (g : Ghosts D) where
   -- A page of a file or an object has the bytes that it had. Or it was untouched, and is at home, or came from there, if it is one of
   -- these: a file page was read, and a page of an object is zeros.
-  pub data IsBrought (before after : D) (W : PageKey → Type 0) (old new : Picture mode) (p : PageKey) : Type 0 where
+  pub data IsBrought (before after : SizedStore D) (W : PageKey → Type 0) (old new : Picture mode) (p : PageKey) : Type 0 where
     Stays : held new p ≡ held old p → IsBrought before after W old new p
     Leaves : held new p ≡ None → old.touched p ≡ false → IsBrought before after W old new p
     Comes : (f : FilePage) (bytes : List ℕ) → p ≡ File f → W p → held new p ≡ Some bytes → old.touched p ≡ false → IsRead g before after f bytes → IsBrought before after W old new p
     Blank : (o : ObjectPage) → p ≡ Object o → W p → held new p ≡ Some zero_page → old.touched p ≡ false → IsBrought before after W old new p
 
-  pub record BringsPages (before after : D) (W : PageKey → Type 0) (old new : Picture mode) : Type 0 where
+  pub record BringsPages (before after : SizedStore D) (W : PageKey → Type 0) (old new : Picture mode) : Type 0 where
     pub each : (p : PageKey) → IsBrought before after W old new p
     pub files : (f : ℕ) → new.files f ≡ old.files f
 
@@ -40,7 +41,7 @@ module _ {M : Type 0} {m : Levels.Ghosts M} {D : Type 0} (g : Ghosts D) where
     -- frames may have been given up, file pages read into frames, and entries set
     pub record Proceeds (old new : Core D E M m) : Type 0 where
       pub fit : IsFit (picture_of new)
-      pub ready : IsReadyStore g new.store
+      pub ready : IsReadySized g new.store
       pub swap : IsReady h new.swap
       pub spaces : KeepsSpaces (picture_of old) (picture_of new)
       pub tables : KeepsTables (picture_of old) (picture_of new)
@@ -50,4 +51,4 @@ module _ {M : Type 0} {m : Levels.Ghosts M} {D : Type 0} (g : Ghosts D) where
 
     -- as long as the swap device keeps its model
     abbrev pub BringsFiles : (PageKey → Type 0) → Core D E M m → Core D E M m → Type 0
-    BringsFiles W old new = h.keeps_model new.swap.pages.disk → BringsPages g (disk_of old.store) (disk_of new.store) W (picture_of old) (picture_of new)
+    BringsFiles W old new = h.keeps_model new.swap.pages.disk → BringsPages g old.store new.store W (picture_of old) (picture_of new)

@@ -9,7 +9,7 @@ use Rattle.disk_model.specs.declared.sector_disk.SectorDisk.{Ghosts}
 use Rattle.disk_model.specs.Moments.{AsksOnly}
 use Rattle.disk_model.specs.Stop.{NamesOnce}
 use Rattle.frames.specs.FrameTable.{IsFull}
-use Rattle.stores.specs.Store.{IsReadyStore, disk_of}
+use Rattle.sized_stores.specs.Store.{IsReadySized, disk_of}
 use Rattle.page_cache.specs.declared.place.Place.TheVariants.{Frame}
 use Rattle.swap.specs.Slots.{IsReady}
 use Rattle.residency.specs.declared.kernel.Core.{Core}
@@ -29,7 +29,7 @@ module _ {M : Type 0} {m : Levels.Ghosts M} {D E : Type 0} (g : Ghosts D) (h : G
   pub record MayBring (core : Core D E M m) (page : PageKey) : Type 0 where
     -- memory is fit, both devices may be used,
     pub fit : IsFit (picture_of core)
-    pub store : IsReadyStore g core.store
+    pub store : IsReadySized g core.store
     pub swap : IsReady h core.swap
     -- and the page begins inside its file, or is of an object that a process names.
     pub inside : IsPageFor (picture_of core) page

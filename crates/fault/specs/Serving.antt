@@ -13,7 +13,7 @@ use Rattle.residency.specs.declared.kernel.Core.{Core}
 use Rattle.residency.specs.Picture.{picture_of, entry, is_swapped}
 use Rattle.residency.specs.Stalls.{CountsNothing}
 use Rattle.fault.specs.Chances.{AreAllMarkedFor, GivesOthersChance, WantsOneFrame}
-use Rattle.fault.specs.Changes.{IsCalm, IsThatPage, KeepsOtherViews, KeepsSlotted, LinksTables}
+use Rattle.fault.specs.Changes.{IsCalm, IsThatPage, KeepsOtherViews, KeepsSlotted, KeepsTouched, LinksTables}
 use Rattle.fault.specs.Files.{Proceeds, BringsFiles}
 use Rattle.fault.specs.declared.refusal.AccessRefusal.{AccessRefusal}
 use Rattle.fault.specs.AccessAsking.{AsksForPage}
@@ -26,8 +26,9 @@ module _ {M : Type 0} {m : Levels.Ghosts M} {D E : Type 0} (g : Ghosts D) (h : G
   pub record Tends (old new : Core D E M m) (pid page : ℕ) (access : Access) : Type 0 where
     -- memory is fit, with the processes, the regions and the tables that it had, and the devices may be used further;
     pub proceeds : Proceeds g h old new
-    -- every file has the bytes that it had, though its pages may have moved;
+    -- every file has the bytes that it had, though its pages may have moved, and pages that were touched still are;
     pub brings : BringsFiles g h (ShowsFile (picture_of old) pid page) old new
+    pub touches : KeepsTouched (picture_of old) (picture_of new)
     -- no other page is seen otherwise, and none but this one comes out of its slot;
     pub others : KeepsOtherViews (picture_of old) (picture_of new) pid page
     pub slotted : KeepsSlotted (ShowsFile (picture_of old) pid page) (IsThatPage pid page) (picture_of old) (picture_of new)

@@ -4,7 +4,7 @@ use Rattle.std.specs.Prelude.{◌≡◌, ℕ, true}
 use Rattle.vm_types.specs.declared.access.Access.{Access}
 use Rattle.vm_types.specs.declared.region.Attr.{Attr}
 use Rattle.disk_model.specs.declared.sector_disk.SectorDisk.{Ghosts}
-use Rattle.stores.specs.Store.{IsReadyStore}
+use Rattle.sized_stores.specs.Store.{IsReadySized}
 use Rattle.swap.specs.Slots.{IsReady}
 use Rattle.residency.specs.declared.kernel.Core.{Core}
 use Rattle.residency.specs.Picture.{picture_of, is_live}
@@ -18,7 +18,7 @@ module _ {M : Type 0} {m : Levels.Ghosts M} {D E : Type 0} (g : Ghosts D) (h : G
   pub record MayServe (core : Core D E M m) (pid page : ℕ) (attr : Attr) (access : Access) : Type 0 where
     -- memory is fit and both devices may be used,
     pub fit : IsFit (picture_of core)
-    pub store : IsReadyStore g core.store
+    pub store : IsReadySized g core.store
     pub swap : IsReady h core.swap
     -- and the process lives, and its page lets the access.
     pub lives : is_live (picture_of core) pid ≡ true
@@ -28,7 +28,7 @@ module _ {M : Type 0} {m : Levels.Ghosts M} {D E : Type 0} (g : Ghosts D) (h : G
   pub record MayServeAt (core : Core D E M m) (there : Spot) (attr : Attr) (access : Access) : Type 0 where
     -- its entry has its place, in memory that is fit, both devices may be used,
     pub spot : StandsAt (picture_of core) there
-    pub store : IsReadyStore g core.store
+    pub store : IsReadySized g core.store
     pub swap : IsReady h core.swap
     -- and the page lets the access.
     pub allowed : IsOpenTo (picture_of core) there.pid there.page access attr

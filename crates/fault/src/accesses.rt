@@ -1,6 +1,6 @@
 //! Accesses.
 ghost use Rattle.std.specs.Prelude.{◌≡◌, true};
-ghost use Rattle.stores.specs.Store.{IsReadyStore};
+ghost use Rattle.sized_stores.specs.Store.{IsReadySized};
 ghost use Rattle.swap.specs.Slots.{IsReady};
 ghost use Rattle.residency.specs.Picture.{picture_of, is_live};
 ghost use Rattle.residency.specs.Parts.{IsFit};
@@ -39,7 +39,7 @@ pub fn access<D: SectorDisk, E: SectorDisk, M: Levels>(
     access: Access,
 ) -> Result<Phys, AccessRefusal>
     requires fit { IsFit (picture_of core.old) }
-    requires store { IsReadyStore D.SectorDisk core.old.store }
+    requires store { IsReadySized D.SectorDisk core.old.store }
     requires swap { IsReady E.SectorDisk core.old.swap }
     requires lives { is_live (picture_of core.old) pid ≡ true }
     ensures { Reaches D.SectorDisk E.SectorDisk core.old core.new pid addr width access result }

@@ -23,4 +23,5 @@ mod swapping;
 
 pub use accesses::access;
 pub use linking::link_tables;
+pub use page_in::cached;
 pub use refusal::AccessRefusal;

@@ -17,7 +17,7 @@ use vm_types::{FrameNo, Levels, PageKey, Stall};
 /// # Errors
 /// As `obtain`, where no frame is to be had; `SwapDevice` or `StoreDevice` where that device failed. Then the page stays where it
 /// was.
-pub(crate) fn cached<D: SectorDisk, E: SectorDisk, M: Levels>(
+pub fn cached<D: SectorDisk, E: SectorDisk, M: Levels>(
     core: &mut Core<D, E, M>,
     page: PageKey,
 ) -> Result<FrameNo, Stall>

@@ -1,13 +1,17 @@
 //! The model: what is mapped, what it shows, and what stands after a stop.
-use crate::pages::{Bytes, CommonPage, Page, Range, backing, behind, is_due};
+use crate::files::{File, first_byte, is_due, is_whole, length_of, page_of, taken};
+use crate::pages::{Bytes, CommonPage, Page, Range, backing, behind, is_cut_off};
 use std::alloc::{AllocError, Global};
 use vm_types::{
-    Backing, Code, Command, Errno, Fault, FilePage, MapSource, Mode, MsyncMode, PageKey, Pid,
-    Placing, Reply, StoredValue, Width,
+    Backing, Code, Command, Errno, Fault, MapSource, Mode, MsyncMode, PageKey, Pid, Placing, Reply,
+    StoredValue, Width,
 };
 
 /// The most processes.
 const PROCESSES: u64 = 64;
+
+/// The most bytes of a file.
+const LONGEST: u64 = 1 << 42;
 
 /// The first user page.
 const USER_START: u64 = 16;
@@ -15,7 +19,7 @@ const USER_START: u64 = 16;
 /// The process that a command names.
 fn process_of(command: Command) -> Option<u64> {
     match command {
-        Command::Spawn | Command::PastFaults => None,
+        Command::Spawn | Command::Truncate { .. } | Command::PastFaults => None,
         Command::Fork { pid }
         | Command::Exit { pid }
         | Command::Mmap { pid, .. }
@@ -36,41 +40,38 @@ pub struct Flat {
     mode: Mode,
     /// The most touched pages that one msync takes.
     most: usize,
+    /// Files may get other lengths.
+    resizes: bool,
     /// The numbers of the processes that live.
     live: Vec<u64>,
     pages: Vec<Page>,
-    /// The pages of the files in their order, then those of objects.
+    files: Vec<File>,
+    /// The pages of files and of objects that were stored to.
     common: Vec<CommonPage>,
 }
 
 impl Flat {
-    /// No process, address spaces of that mode, files of so many zeros, and msyncs that take so many pages at most.
+    /// No process, address spaces of that mode, files of so many zeros, which may get other lengths or not, and msyncs that take so many pages at most.
     pub fn new(
         alloc: Global,
         mode: Mode,
         most: usize,
+        resizes: bool,
         lengths: &[u32],
     ) -> Result<Flat, AllocError> {
         let mut flat = Flat {
             mode,
             most,
+            resizes,
             live: Vec::new(alloc),
             pages: Vec::new(alloc),
+            files: Vec::new(alloc),
             common: Vec::new(alloc),
         };
-        for (file, length) in lengths.iter().enumerate() {
-            flat.add_file((file % 64) as u16, *length)?;
+        for length in lengths {
+            flat.files.push(File::new(u64::from(*length)))?;
         }
         Ok(flat)
-    }
-
-    fn add_file(&mut self, file: u16, length: u32) -> Result<(), AllocError> {
-        for page in 0..length.div_ceil(4096) {
-            let key = PageKey::File(FilePage { file, page });
-            let inside = length.saturating_sub(page.saturating_mul(4096)).min(4096);
-            self.common.push(CommonPage::new(key, inside as usize))?;
-        }
-        Ok(())
     }
 
     /// Carries out a command, and returns its reply. Commands that the tests don't use have the reply of a halted machine.
@@ -104,6 +105,7 @@ impl Flat {
                 len,
                 mode: MsyncMode::Sync,
             } => Ok(self.sync(Range::new(pid, addr, len))),
+            Command::Truncate { file, length } => self.truncate(file, length),
             Command::Load { pid, addr, width } => Ok(self.load(pid, addr, width)),
             Command::Store { pid, addr, stored } => self.store(pid, addr, stored),
             Command::Msync { .. }
@@ -158,15 +160,30 @@ impl Flat {
         own.saturating_add(common)
     }
 
-    /// What the pages of the files hold after a stop.
+    /// What the pages of the files hold after a stop, file by file.
     pub fn durable(&self, alloc: Global) -> Result<Vec<u8>, AllocError> {
         let mut bytes = Vec::new(alloc);
-        for common in &self.common {
-            if let PageKey::File(_) = common.key {
-                bytes.extend_from_slice(&common.durable)?;
+        for (number, file) in self.files.iter().enumerate() {
+            for page in 0..file.durable.div_ceil(4096) {
+                bytes.extend_from_slice(&self.durable_page(number as u64, page))?;
             }
         }
         Ok(bytes)
+    }
+
+    /// What a page of a file holds after a stop.
+    fn durable_page(&self, file: u64, page: u64) -> Bytes {
+        let key = PageKey::File(page_of(file, page));
+        match self.common.iter().find(|common| common.key == key) {
+            Some(common) => common.durable,
+            None => [0; 4096],
+        }
+    }
+
+    /// How long a file is after a stop, or none where there is none.
+    pub fn durable_length(&self, file: u16) -> Option<u64> {
+        let file = self.files.get(usize::from(file))?;
+        Some(file.durable)
     }
 
     /// A process more, with the pages of another. No process is number 0.
@@ -277,22 +294,62 @@ impl Flat {
         if !self.covers(range) {
             return Reply::Refused(Errno::ENOMEM);
         }
-        let pages = self.pages.as_slice();
-        if self
-            .common
-            .iter()
-            .filter(|common| is_due(pages, range, common))
-            .count()
-            > self.most
-        {
+        let (pages, files) = (self.pages.as_slice(), self.files.as_slice());
+        let due = self.common.iter();
+        let due = due.filter(|common| is_due(pages, files, range, common));
+        if due.count() > self.most {
             return Reply::Refused(Errno::ENOSPC);
         }
         for common in self.common.iter_mut() {
-            if is_due(pages, range, common) {
-                common.commit();
+            if let Some(length) = taken(pages, files, range, common) {
+                common.commit(length);
+            }
+        }
+        for (number, file) in self.files.iter_mut().enumerate() {
+            if is_whole(pages, range, number as u64, file) {
+                file.commit();
             }
         }
         Reply::Done
+    }
+
+    fn truncate(&mut self, file: u64, length: u64) -> Result<Reply, AllocError> {
+        let Some(was) = self.files.get(file as usize).map(|file| file.length) else {
+            return Ok(Reply::Refused(Errno::EBADF));
+        };
+        if !self.resizes {
+            return Ok(Reply::Refused(Errno::EINVAL));
+        }
+        if length > LONGEST {
+            return Ok(Reply::Refused(Errno::EFBIG));
+        }
+        if length != was {
+            self.resize(file, was, length)?;
+        }
+        Ok(Reply::Done)
+    }
+
+    /// Gives a file another length: what lies past the shorter one of both is gone. The page that it ended in is touched where it grows.
+    fn resize(&mut self, file: u64, was: u64, length: u64) -> Result<(), AllocError> {
+        for common in self.common.iter_mut() {
+            if common.is_of(file) {
+                common.cut(was.min(length));
+            }
+        }
+        for page in self.pages.iter_mut() {
+            if is_cut_off(page.backing, file, length) {
+                page.own = None;
+            }
+        }
+        if was < length && was % 4096 != 0 {
+            let key = PageKey::File(page_of(file, was / 4096));
+            let bytes = self.common_bytes(key);
+            self.put_common(key, bytes)?;
+        }
+        if let Some(file) = self.files.get_mut(file as usize) {
+            file.resize(length);
+        }
+        Ok(())
     }
 
     /// The page that an access reaches, or why it faults.
@@ -303,7 +360,7 @@ impl Flat {
             return Err(Code::SegvMaperr);
         };
         match behind(page.backing) {
-            Some(key @ PageKey::File(_)) if !self.common.iter().any(|common| common.key == key) => {
+            Some(PageKey::File(at)) if first_byte(at) >= length_of(self.files.as_slice(), at) => {
                 Err(Code::BusAdrerr)
             }
             _ => Ok(*page),
@@ -312,14 +369,18 @@ impl Flat {
 
     /// What a page shows.
     fn shown(&self, page: &Page) -> Bytes {
-        let key = behind(page.backing);
-        match (
-            page.own,
-            self.common.iter().find(|common| Some(common.key) == key),
-        ) {
+        match (page.own, behind(page.backing)) {
             (Some(bytes), _) => bytes,
-            (None, Some(common)) => common.shown,
+            (None, Some(key)) => self.common_bytes(key),
             (None, None) => [0; 4096],
+        }
+    }
+
+    /// What a page of a file or of an object shows.
+    fn common_bytes(&self, key: PageKey) -> Bytes {
+        match self.common.iter().find(|common| common.key == key) {
+            Some(common) => common.shown,
+            None => [0; 4096],
         }
     }
 
@@ -388,7 +449,7 @@ impl Flat {
 
     fn put_common(&mut self, key: PageKey, bytes: Bytes) -> Result<(), AllocError> {
         if !self.common.iter().any(|common| common.key == key) {
-            self.common.push(CommonPage::new(key, 4096))?;
+            self.common.push(CommonPage::new(key))?;
         }
         for common in self.common.iter_mut() {
             if common.key == key {

@@ -1,4 +1,5 @@
 //! Pages of processes, and pages that all processes see alike.
+use crate::files::{first_byte, page_of};
 use vm_types::{Backing, FilePage, MapSource, ObjectPage, PageKey};
 
 /// The bytes of a page.
@@ -13,11 +14,10 @@ pub(crate) struct Page {
     pub own: Option<Bytes>,
 }
 
-/// A page of a file, or of an object that was stored to. So many of its first bytes are a file's.
+/// A page of a file or of an object that was stored to. Others are zeros.
 #[derive(Clone, Copy)]
 pub(crate) struct CommonPage {
     pub key: PageKey,
-    pub length: usize,
     pub shown: Bytes,
     pub durable: Bytes,
     /// It was stored to, and not made durable since.
@@ -26,23 +26,44 @@ pub(crate) struct CommonPage {
 
 impl CommonPage {
     /// A page of zeros.
-    pub(crate) fn new(key: PageKey, length: usize) -> CommonPage {
+    pub(crate) fn new(key: PageKey) -> CommonPage {
         CommonPage {
             key,
-            length,
             shown: [0; 4096],
             durable: [0; 4096],
             is_touched: false,
         }
     }
 
-    /// Makes it durable. What lies past the end of its file becomes zeros.
-    pub(crate) fn commit(&mut self) {
-        for byte in self.shown.iter_mut().skip(self.length) {
-            *byte = 0;
-        }
+    /// Makes it durable. What lies past the end of its file, of so many bytes, becomes zeros.
+    pub(crate) fn commit(&mut self, length: u64) {
+        self.cut(length);
         self.durable = self.shown;
         self.is_touched = false;
+    }
+
+    /// Puts zeros in place of what lies past so many bytes of its file. It is touched no more where nothing lies before.
+    pub(crate) fn cut(&mut self, length: u64) {
+        let inside = self.bytes_inside(length);
+        for byte in self.shown.iter_mut().skip(inside) {
+            *byte = 0;
+        }
+        if inside == 0 {
+            self.is_touched = false;
+        }
+    }
+
+    /// How many of its bytes lie within so many bytes of its file.
+    fn bytes_inside(&self, length: u64) -> usize {
+        match self.key {
+            PageKey::File(at) => length.saturating_sub(first_byte(at)).min(4096) as usize,
+            PageKey::Object(_) => 4096,
+        }
+    }
+
+    /// Whether it is of that file.
+    pub(crate) fn is_of(&self, file: u64) -> bool {
+        matches!(self.key, PageKey::File(at) if u64::from(at.file) == file)
     }
 }
 
@@ -89,10 +110,7 @@ pub(crate) fn behind(backing: Backing) -> Option<PageKey> {
 
 /// The page of a file that lies so many pages behind an offset.
 fn file_page(file: u64, offset: u64, page: u64) -> FilePage {
-    FilePage {
-        file: (file % 64) as u16,
-        page: ((offset / 4096).wrapping_add(page) % (1 << 32)) as u32,
-    }
+    page_of(file, (offset / 4096).wrapping_add(page))
 }
 
 /// What stands behind a page of a mapping, whose object, where it takes one, has that number.
@@ -105,14 +123,7 @@ pub(crate) fn backing(source: MapSource, object: u16, page: u64) -> Backing {
     }
 }
 
-/// Whether an msync of those pages takes that one.
-pub(crate) fn is_due(pages: &[Page], range: Range, common: &CommonPage) -> bool {
-    match common.key {
-        PageKey::File(file) => {
-            let mut pages = pages.iter();
-            common.is_touched
-                && pages.any(|page| range.has(page) && page.backing == Backing::Shared(file))
-        }
-        PageKey::Object(_) => false,
-    }
+/// Whether that is a private page of that file which begins at or past so many bytes.
+pub(crate) fn is_cut_off(backing: Backing, file: u64, length: u64) -> bool {
+    matches!(backing, Backing::Private(at) if u64::from(at.file) == file && first_byte(at) >= length)
 }

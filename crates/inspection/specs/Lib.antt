@@ -4,3 +4,4 @@ pub mod Slots
 pub mod Pages
 pub mod Tables
 pub mod Machines
+pub mod Files

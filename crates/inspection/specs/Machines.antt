@@ -4,12 +4,18 @@ use Rattle.residency.specs.Picture.{Picture, picture_of}
 use Rattle.machine.specs.Machine.{bits_of, halted_of, mode_of}
 use Rattle.machine.specs.declared.machine.Machine.{Machine}
 use Rattle.machine.specs.declared.machine.Machine.TheVariants.{Sv39, Sv48}
+use Rattle.sized_stores.specs.Store.{SizedDirectory, directory_of}
 
 module _ {D E : Type 0} where
   -- what memory holds
   abbrev pub memory_of : (m : Machine D E) → Picture (bits_of (mode_of m))
   memory_of (Sv39 m) = picture_of m.core
   memory_of (Sv48 m) = picture_of m.core
+
+  -- what its store keeps of files: their lengths, now and durably
+  abbrev pub files_kept : Machine D E → SizedDirectory
+  files_kept (Sv39 m) = directory_of m.core.store
+  files_kept (Sv48 m) = directory_of m.core.store
 
   -- the frame that is looked at first when one is to be given up
   abbrev pub hand_of : Machine D E → ℕ

@@ -10,7 +10,7 @@ use vm_types::{Levels, PageKey};
 #[derive(Clone, Copy, Debug, PartialEq, Eq)]
 pub struct PageView {
     pub place: Place,
-    /// Whether it was stored to and isn't durable yet.
+    /// Whether it was stored to, or its file got longer within it, and it isn't durable yet.
     pub is_touched: bool,
 }
 

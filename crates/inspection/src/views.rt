@@ -8,21 +8,24 @@ ghost use Rattle.memory.specs.Kept.{IsLeafOf};
 ghost use Rattle.memory.specs.Lines.{line_place};
 ghost use Rattle.regions.specs.RunList.{IsNextRun};
 ghost use Rattle.residency.specs.Picture.{is_live};
+ghost use Rattle.sized_stores.specs.Store.{files_in};
+ghost use Rattle.inspection.specs.Files.{IsFileView};
 ghost use Rattle.inspection.specs.Frames.{IsFrameView, HoldsData, HasNoMapper, IsMapper};
-ghost use Rattle.inspection.specs.Machines.{hand_of, memory_of, Tells};
+ghost use Rattle.inspection.specs.Machines.{files_kept, hand_of, memory_of, Tells};
 ghost use Rattle.inspection.specs.Pages.{HasNoEntryFrom, IsNextEntry, IsPageView};
 ghost use Rattle.inspection.specs.Slots.{HasNoPageIn, IsNextSwapped, IsSlotView};
 ghost use Rattle.inspection.specs.Tables.{IsPlaceOf};
 ghost use Rattle.inspection.specs.Walks.{IsNextStep, IsStep, IsStepOfSome};
 ghost use Rattle.machine.specs.Machine.{bits_of, halted_of, mode_of, IsSoundMachine};
 
+use crate::files::FileView;
 use crate::frame_views::{FrameView, Mapper};
 use crate::pages::PageEntry;
 use crate::places::PageView;
 use crate::slots::SlotView;
 use crate::tables::TablePlace;
 use crate::walks::Step;
-use crate::{buffer, frame_views, pages, places, slots, tables, walks};
+use crate::{buffer, files, frame_views, pages, places, slots, tables, walks};
 use disk_model::SectorDisk;
 use machine::Machine;
 use memory::Line;
@@ -172,6 +175,20 @@ pub fn page_view<D: SectorDisk, E: SectorDisk>(
     match machine {
         Machine::Sv39(engine) => Some(places::page_view(engine.memory()?, page)),
         Machine::Sv48(engine) => Some(places::page_view(engine.memory()?, page)),
+    }
+}
+
+/// A file as it is now; `None` exactly where there is none of that number, or the machine has halted.
+pub fn file_view<D: SectorDisk, E: SectorDisk>(
+    machine: &Machine<D, E>,
+    file: u16,
+) -> Option<FileView>
+    requires sound { IsSoundMachine D.SectorDisk E.SectorDisk machine.now }
+    ensures { Tells machine.now (IsFileView (files_kept machine.now) file) (files_in (files_kept machine.now) file ≡ None) result }
+{
+    match machine {
+        Machine::Sv39(engine) => files::file_view(engine.memory()?, file),
+        Machine::Sv48(engine) => files::file_view(engine.memory()?, file),
     }
 }
 

@@ -1,24 +1,34 @@
 -- Contents that are the same inside the files, and what msyncs make of them.
-use Rattle.{std.proofs.Common.{ℕ, zero, suc, ◌≡◌, Bool, true, false, if◌then◌else◌, List, [], ◌∷◌, refl, sym, ◌∙◌}, disk_model.specs.Stop.{Image}, file_store.specs.Standing.{IsPageOf}, stores.specs.Images.{StandsFor, StandsForContents}}
-use Rattle.vm_types.specs.Files.{Files, Contents}
-use Rattle.vm_types.specs.{Msync.{Ruling, Takes, touched_in}, Prefix.{Event, is_msync, may_have_taken, after_event, after_msyncs}, State.{State}, Step.{ruling, takes}, View.{Pages}}
+use Rattle.{std.proofs.Common.{ℕ, zero, suc, ◌≡◌, Bool, true, false, if◌then◌else◌, Option, List, [], ◌∷◌, refl, ap, sym, ◌∙◌}, std.specs.Prelude.{◌||◌}, disk_model.specs.Stop.{Image}, file_store.specs.Standing.{IsPageOf}, stores.specs.Images.{StandsFor, StandsForContents}}
+use Rattle.vm_types.specs.{declared.file.FileInfo.{FileInfo}, Files.{Files, Contents}}
+use Rattle.vm_types.specs.{Msync.{Ruling, Takes, resized_in, touched_in}, Prefix.{Event, is_msync, may_have_taken, after_event, after_msyncs}, State.{State}, Step.{ruling, takes}, View.{Pages}}
 
 -- the same files, with the same bytes in each page of them
 pub record Agree (p q : Contents) : Type 0 where
   pub files : (f : ℕ) → p.files f ≡ q.files f
   pub pages : (f k : ℕ) → IsPageOf q.files f k → p.pages f k ≡ q.pages f k
 
-either_page : (b : Bool) (x y z : List ℕ) → y ≡ z → ◌≡◌ {A = List ℕ} (if b then x else y) (if b then x else z)
-either_page true x y z same = refl
-either_page false x y z same = same
-
 either_contents : (b : Bool) (x y p q : Contents) → Agree x y → Agree p q → Agree (if b then x else p) (if b then y else q)
 either_contents true x y p q first second = first
 either_contents false x y p q first second = second
 
+either_file : (b : Bool) (x y z : Option FileInfo) → y ≡ z → ◌≡◌ {A = Option FileInfo} (if b then x else y) (if b then x else z)
+either_file true x y z same = refl
+either_file false x y z same = same
+
+-- a page of a row, touched or of a file that has got another length
+taken_page : (touched resized : Bool) (x y z : List ℕ) → (resized ≡ false → y ≡ z) → ◌≡◌ {A = List ℕ} (if touched || resized then x else y) (if touched || resized then x else z)
+taken_page true resized x y z same = refl
+taken_page false true x y z same = refl
+taken_page false false x y z same = same refl
+
 agree_takes : (s : State) (r : Ruling) (p q : Contents) → Agree p q → Agree (takes s r p) (takes s r q)
 agree_takes s (Takes pid first count) p q same =
-    record { files = same.files; pages = λ f k inside. either_page (touched_in s pid first count f k) _ (p.pages f k) (q.pages f k) (same.pages f k inside) }
+    let resized : ℕ → Bool = resized_in s pid first count in record {
+      files = λ f. either_file (resized f) (s.files f) (p.files f) (q.files f) (same.files f);
+      pages = λ f k inside. taken_page (touched_in s pid first count f k) (resized f) _ (p.pages f k) (q.pages f k)
+          (λ e. same.pages f k (inside.0, ap (λ (b : Bool). if b then s.files f else q.files f) (sym e) ∙ inside.1, inside.2));
+    }
 agree_takes s r p q same = same
 
 agree_event : (event : Event) (p q : Contents) → Agree p q → Agree (after_event event p) (after_event event q)

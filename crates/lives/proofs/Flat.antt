@@ -20,7 +20,7 @@ module _ {D E : Type 0} (g : Ghosts D) (h : Ghosts E) where
   flat old s [] [] [] new t c = c.1
   flat old s (x ∷ xs) (r ∷ rs) (e ∷ es) new t c = (
     c.1,
-    subst (λ (m : Machine D E). Step (machine_causes g h old m) s x r c.1) (sym (at_start c.0 c.1 xs rs es new t c.4)) (face g h old c.0 s c.1 x r c.3).step,
+    subst (λ (m : Machine D E). Step (machine_causes g h old m x) s x r c.1) (sym (at_start c.0 c.1 xs rs es new t c.4)) (face g h old c.0 s c.1 x r c.3).step,
     one_later (causes_in g h old s (x ∷ xs) (r ∷ rs) (e ∷ es) new t c) 0 c.1 xs rs t (flat c.0 c.1 xs rs es new t c.4),
   )
   flat old s commands replies es new t c = absurd c

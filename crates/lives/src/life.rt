@@ -4,7 +4,7 @@ ghost use Rattle.machine.specs.Boot.{BootRefuses, HasRoom};
 ghost use Rattle.machine.specs.Machine.{IsSoundMachine, store_of, swap_of};
 ghost use Rattle.lives.specs.Lives.{FailsToStart, RanSince};
 
-use disk_model::SectorDisk;
+use disk_model::{SectorDisk, WriteZeros};
 use machine::{BootFault, Config, Machine};
 use runner::Devices;
 use std::alloc::Global;
@@ -13,7 +13,7 @@ use vm_types::{Command, Reply};
 /// Boots a machine of that size on a store as a stop left it, and has it carry out commands: with whatever stop comes meanwhile,
 /// that is a life. Where no machine starts, the fault is that of `Machine::boot`; on what lives left of a store, and on one that
 /// has had none, it is never `BadLayout` or `BadJournal`.
-pub fn live<D: SectorDisk, E: SectorDisk + Drop>(
+pub fn live<D: WriteZeros, E: SectorDisk + Drop>(
     alloc: Global,
     config: Config,
     devices: Devices<D, E>,

@@ -4,7 +4,7 @@ ghost use Rattle.machine.specs.Machine.{IsSoundMachine};
 
 use crate::viewer::Viewer;
 use command_words::run_words;
-use disk_model::{FileContents, SectorDisk, Unknown};
+use disk_model::{FileContents, SectorDisk, Unknown, WriteZeros};
 use machine::Machine;
 use programs::{ProgramFault, boot_image, held_places, report, status_of};
 use std::alloc::Global;
@@ -52,7 +52,7 @@ fn look_image<
 }
 
 /// Runs the trace on a machine that has just started.
-fn look_over<'a, D: SectorDisk, E: SectorDisk, I: Read, O: Write>(
+fn look_over<'a, D: WriteZeros, E: SectorDisk, I: Read, O: Write>(
     alloc: Global,
     machine: &mut Machine<D, E>,
     reader: &mut I,

@@ -6,7 +6,7 @@ ghost use Rattle.trace_lang.specs.Lines.{HasNoNewline};
 ghost use Rattle.looking.specs.Lines.{is_aside};
 ghost use Rattle.looking.specs.Session.{TakesAll, TakesLine, TakesSome, WritesReply};
 
-use disk_model::SectorDisk;
+use disk_model::{SectorDisk, WriteZeros};
 use machine::Machine;
 use memchr::memchr;
 use runner::{LineBuffer, RunEnd, answer_line, read_once};
@@ -47,7 +47,7 @@ impl Viewer {
     }
 
     /// Takes lines from the reader until its end, and answers each. What was written is flushed before more is read.
-    pub(crate) fn take_all<R: Read, W: Write, D: SectorDisk, E: SectorDisk>(
+    pub(crate) fn take_all<R: Read, W: Write, D: WriteZeros, E: SectorDisk>(
         &mut self,
         reader: &mut R,
         machine: &mut Machine<D, E>,
@@ -67,7 +67,7 @@ impl Viewer {
     }
 
     /// One read, and what its bytes ask for. `None`: the run goes on.
-    fn turn<R: Read, W: Write, D: SectorDisk, E: SectorDisk>(
+    fn turn<R: Read, W: Write, D: WriteZeros, E: SectorDisk>(
         &mut self,
         input: &mut [u8],
         reader: &mut R,
@@ -86,7 +86,7 @@ impl Viewer {
     }
 
     /// Goes on by a piece of the input, and flushes. `None`: all was written.
-    fn take_piece<W: Write, D: SectorDisk, E: SectorDisk>(
+    fn take_piece<W: Write, D: WriteZeros, E: SectorDisk>(
         &mut self,
         piece: &[u8],
         machine: &mut Machine<D, E>,
@@ -102,7 +102,7 @@ impl Viewer {
     }
 
     /// Takes the last line, which no newline ended.
-    fn finish<W: Write, D: SectorDisk, E: SectorDisk>(
+    fn finish<W: Write, D: WriteZeros, E: SectorDisk>(
         &mut self,
         machine: &mut Machine<D, E>,
         out: &mut W,
@@ -120,7 +120,7 @@ impl Viewer {
     }
 
     /// Takes the lines that end in a piece of the input, and keeps the beginning of the next.
-    fn run_piece<W: Write, D: SectorDisk, E: SectorDisk>(
+    fn run_piece<W: Write, D: WriteZeros, E: SectorDisk>(
         &mut self,
         piece: &[u8],
         machine: &mut Machine<D, E>,
@@ -144,7 +144,7 @@ impl Viewer {
     }
 
     /// Takes the line that these bytes end. One that stands whole in them is taken where it stands.
-    fn end_line<W: Write, D: SectorDisk, E: SectorDisk>(
+    fn end_line<W: Write, D: WriteZeros, E: SectorDisk>(
         &mut self,
         bytes: &[u8],
         machine: &mut Machine<D, E>,
@@ -163,7 +163,7 @@ impl Viewer {
     }
 
     /// Takes the line that is kept, and begins a new one.
-    fn take_open_line<W: Write, D: SectorDisk, E: SectorDisk>(
+    fn take_open_line<W: Write, D: WriteZeros, E: SectorDisk>(
         &mut self,
         machine: &mut Machine<D, E>,
         out: &mut W,
@@ -203,7 +203,7 @@ fn flushed<W: Write>(out: &mut W) -> Option<RunEnd> {
 }
 
 /// Takes one line: a comment, a question, or a line of the trace.
-fn take_line<W: Write, D: SectorDisk, E: SectorDisk>(
+fn take_line<W: Write, D: WriteZeros, E: SectorDisk>(
     line: &[u8],
     ledger: &mut Ledger,
     text: &mut [u8; 1024],
@@ -252,7 +252,7 @@ fn ask<W: Write, D: SectorDisk, E: SectorDisk>(
 }
 
 /// Runs a line of the trace, writes its reply, and then what it did inside where that is watched.
-fn follow<W: Write, D: SectorDisk, E: SectorDisk>(
+fn follow<W: Write, D: WriteZeros, E: SectorDisk>(
     line: &[u8],
     ledger: &mut Ledger,
     text: &mut [u8; 1024],
@@ -275,7 +275,7 @@ fn follow<W: Write, D: SectorDisk, E: SectorDisk>(
 }
 
 /// Runs a line of the trace, and writes its reply, which is the first bytes of `text` then. Returns how many these are.
-fn reply_to<W: Write, D: SectorDisk, E: SectorDisk>(
+fn reply_to<W: Write, D: WriteZeros, E: SectorDisk>(
     line: &[u8],
     machine: &mut Machine<D, E>,
     text: &mut [u8; 1024],

@@ -3,7 +3,7 @@ use Rattle.vm_types.specs.declared.mode.Levels as Levels
 use Rattle.machine.proofs.{Accesses.{refused_so}, Names.{◌≡◌, ◌≢◌, ◌<◌, ◌≤◌, true, false, refl, sym, ap, ◌∙◌, subst, arith, Ghosts, Tally, Core, ReadCause, IsCaused, names_store, names_swap, refused_count, EIO, Stall, SwapDevice, Answer}}
 use Rattle.{machine.proofs.Names.{reply_of}, vm_types.specs.declared.reply.Answer.TheVariants.{Refused, Stalled}}
 use Rattle.vm_types.specs.declared.reply.Reply.TheVariants as Reply
-use Rattle.stores.specs.Store.{disk_of}
+use Rattle.sized_stores.specs.Store.{disk_of}
 
 -- only the answer that stalls is a stall
 stalled_so : (a : Answer) (stall : Stall) → reply_of a ≡ Reply.Stalled stall → a ≡ Stalled stall

@@ -1,15 +1,18 @@
 -- What the words on machines say, whatever the mode.
 use Rattle.machine.proofs.Names.{◌+◌, ◌≡◌, ◌≤◌, ◌<◌, true, false, is_some, ap, rules, LeavesNow, LeavesOnly, Ghosts, is_idle, names_store, names_swap, refused_count, Command, EIO, SwapDevice, StoreDevice, Reply, Refused, Stalled, Step}
-use Rattle.machine.{proofs.Names.{Causes, State}, specs.{Engine.{MayStand, HoldsIn, StandsForSome}, Machine.{store_of, swap_of, halted_of, past_of, refused_of, mode_of, bits_of, KeepsSizes, IsCausedBetween, Shows, Meets, IsReadable}}}
-use Rattle.{machine.specs.declared.machine.Machine.{Machine, TheVariants.{Sv39, Sv48}}, msync.specs.Shows.{SaysMost}, stores.specs.Store.{disk_of}}
+use Rattle.machine.{proofs.Names.{Causes, State}, specs.{Engine.{MayStand, HoldsIn, StandsForSome}, Machine.{store_of, swap_of, halted_of, past_of, refused_of, mode_of, bits_of, KeepsSizes, IsCausedBetween, LacksRoom, Shows, Meets, IsReadable}}}
+use Rattle.{machine.specs.declared.machine.Machine.{Machine, TheVariants.{Sv39, Sv48}}, msync.specs.Shows.{SaysMost}}
+use Rattle.stores.specs.Store as Durable
+use Rattle.stores.specs.declared.store.Store.{Store}
 
 module _ {D E : Type 0} (g : Ghosts D) (h : Ghosts E) where
-  -- what came to pass between two machines
-  abbrev pub causes : Machine D E → Machine D E → Causes
-  causes old new = record {
+  -- what came to pass between two machines, in a command
+  abbrev pub causes : Machine D E → Machine D E → Command → Causes
+  causes old new command = record {
     store = g.failures (store_of old) < g.failures (store_of new);
     swap = h.failures (swap_of old) < h.failures (swap_of new);
     refused = refused_of new ≡ refused_of old + 1;
+    room = LacksRoom old command;
   }
 
   -- a machine in a state
@@ -31,7 +34,7 @@ module _ {D E : Type 0} (g : Ghosts D) (h : Ghosts E) where
 
   -- a command that was carried out
   pub record IsMet (old new : Machine D E) (s t : State) (command : Command) (reply : Reply) : Type 0 where
-    pub step : Step (causes old new) s command reply t
+    pub step : Step (causes old new command) s command reply t
     pub shows : Shows g h new t
     pub room : KeepsSizes old new
     pub size : g.sector_count (store_of new) ≡ g.sector_count (store_of old)
@@ -45,11 +48,11 @@ module _ {D E : Type 0} (g : Ghosts D) (h : Ghosts E) where
   pub face : (old new : Machine D E) (s t : State) (command : Command) (reply : Reply) → Meets g h old new s t command reply → IsMet old new s t command reply
   face (Sv39 old) (Sv39 new) s t command reply meets =
       let idle : is_idle s command reply ≡ true → (store_of (Sv39 new) ≡ store_of (Sv39 old)) × (swap_of (Sv39 new) ≡ swap_of (Sv39 old)) = λ e.
-      let keeps = meets.idle e in (ap disk_of keeps.store, ap (λ pages. pages.disk) keeps.pages) in
+      let keeps = meets.idle e in (ap (λ (store : Store D). Durable.disk_of store) keeps.store, ap (λ pages. pages.disk) keeps.pages) in
       search rules
   face (Sv48 old) (Sv48 new) s t command reply meets =
       let idle : is_idle s command reply ≡ true → (store_of (Sv48 new) ≡ store_of (Sv48 old)) × (swap_of (Sv48 new) ≡ swap_of (Sv48 old)) = λ e.
-      let keeps = meets.idle e in (ap disk_of keeps.store, ap (λ pages. pages.disk) keeps.pages) in
+      let keeps = meets.idle e in (ap (λ (store : Store D). Durable.disk_of store) keeps.store, ap (λ pages. pages.disk) keeps.pages) in
       search rules
   face old new s t command reply meets = absurd meets
 

@@ -1,12 +1,12 @@
 -- Accesses that hardware makes by itself are commands that are carried out.
 use Rattle.vm_types.specs.declared.mode.Levels as Levels
 use Rattle.machine.proofs.Names.{ℕ, zero, suc, ◌≢◌, ◌≡◌, ◌/◌, ◌%◌, ⊎_elim, true, false, is_some, List, [], ◌∷◌, refl, sym, ap, ◌∙◌, subst, arith, rules, inl, inr, Ghosts, picture_of, Core, KeepsToPage, AsksFor, is_denial, is_idle}
-use Rattle.machine.proofs.Names.{past_after, ruling, takes, Access, StoredValue, Command, Load, Store, Fetch, Reply, Done, Width, State, IsRunning}
-use Rattle.machine.proofs.{Accesses.{carries_out, on_page}, Counts.{counts}, Face.{face, readable}, Flat.{OnlyNow, unread, unused}, HardwareWalks.{user_walked, walks_same}, Runs.{all_ran, ran_first, room_none, room_then, RanSoFar}, Tidied.{tidied}}
+use Rattle.machine.proofs.Names.{past_after, Access, StoredValue, Command, Load, Store, Fetch, Reply, Done, Width, State, IsRunning}
+use Rattle.machine.proofs.{Accesses.{carries_out, on_page, LeavesLengths}, Counts.{counts}, Face.{face, readable}, Flat.{OnlyNow, unused}, HardwareWalks.{user_walked, walks_same}, Runs.{all_ran, ran_first, room_none, room_then, RanSoFar}, Tidied.{tidied}, Told.{unread}}
 use Rattle.fault.{proofs.{Chances.{others_kept, others_same}, Ready.{grants_found}, Serving.{tends_none}, Settling.{beside_around}, Wanted.{walked_same}}, specs.{Changes.{IsThatPage}, Outcome.{IsPlaced}, Serving.{Reaches}, Wants.{ShowsFile}}}
 use Rattle.frames.{proofs.FrameLemmas.{IsHeld-above, IsHeld-not_zero, IsSound-step, with_bytes-others}, specs.{FrameTable.{FrameTable, IsHeld, bytes_of, frame_count, role_of, with_bytes}, declared.role.Role.TheVariants.{Table}}}
-use Rattle.{stores.specs.Store.{disk_of, kept_of, HasRoom, IsReadyStore}, msync.specs.Shows.{IsSoundCore}, std.specs.Prelude.{Ok}, sv39_walk.specs.Walk.{is_store}, swap.specs.Slots.{IsReady}}
-use Rattle.spaces.{proofs.{Asking.{asks_unstalled, writes_none}, Reading.{reads}, Writing.{data_frame, entries_stored, open_held, fit_stored, others_stored, room_stored, slotted_stored, stores}}, specs.{Accesses.{CarriesRead, WritesNumber}, Calls.{Carries}}}
+use Rattle.{sized_stores.specs.Store.{disk_of}, msync.specs.Shows.{IsSoundCore}, std.specs.Prelude.{Ok}, sv39_walk.specs.Walk.{is_store}, swap.specs.Slots.{IsReady}}
+use Rattle.spaces.{proofs.{Asking.{asks_unstalled, writes_none}, Reading.{reads}, Room.{marks_cached, sound_beside}, Writing.{data_frame, entries_stored, open_held, fit_stored, others_stored, room_stored, slotted_stored, stores}}, specs.{Accesses.{CarriesRead, WritesNumber}, Calls.{Carries}}}
 use Rattle.vm_types.specs.{Access.{loaded, with_number}, Width.{byte_count}, declared.{number.Phys.{Phys}, reply.Reply.TheVariants.{Value}, width.Width.TheVariants.{Four}}}
 use Rattle.vm_types.specs.declared.access.Access.TheVariants as Kinds
 use Rattle.machine.specs.{Accesses.{Accesses}, Chain.{after}, Commands.{DoesEachAsTold}, EngineCommands.{EngineCarriesOut}, Engine.{IsSoundEngine}}
@@ -63,13 +63,13 @@ module _ {M : Type 0} {levels : Levels.Ghosts M} {D E : Type 0} (g : Ghosts D) (
     -- is what the command returns
     read_carried : (command : Command) → (CarriesRead g h c c pid addr width kind told → Carries g h c c command told)
         → (AsksFor g h c c pid addr kind told → Accesses g h c c command told) → old.past ≡ past_after command told old.past
-        → ((s : State) → takes s (ruling s command) s.durable ≡ s.durable) → ((s : State) → is_idle s command told ≡ true → is_denial told ≡ true) → is_store kind ≡ false → EngineCarriesOut g h old new command reply
-    read_carried command carries asks noted none denies no_store =
+        → LeavesLengths command → ((s : State) → is_idle s command told ≡ true → is_denial told ≡ true) → is_store kind ≡ false → EngineCarriesOut g h old new command reply
+    read_carried command carries asks noted leaves denies no_store =
         let number = ap (λ (at : ℕ). loaded (bytes_of c.frames (is.place.0 / 4096)) at (byte_count width)) reach.placed.offset in
         let call = carries (reads g h c c pid addr width kind (Ok is.place) reach (ap is_some is.granted.lives) no_store is.place refl _ number) in
         subst (λ (m : Engine D E M levels). EngineCarriesOut g h old m command reply) (sym is.same)
-        (carries_out g h only_now old old c command told reply sound is.runs none refl refl refl is.value (λ s comes. noted)
-        (on_page g h c c command told pid addr kind read_keeps call denies) (asks read_keeps.asks))
+        (carries_out g h only_now old old c command told reply sound is.runs leaves.1 refl refl refl is.value (λ s comes. noted)
+        (on_page g h c c command told pid addr kind leaves read_keeps call denies) (asks read_keeps.asks))
 
   -- a number that was written
   module _ (old new : Core D E M levels) (pid addr : ℕ) (stored : StoredValue) (place : Phys) (sound : IsSoundCore g h old)
@@ -96,12 +96,8 @@ module _ {M : Type 0} {levels : Levels.Ghosts M} {D E : Type 0} (g : Ghosts D) (
         let beside = beside_around old new writes.around in
         record {
           accounts = record {
-            sound = record {
-              ready = subst (λ x. IsReadyStore g x) (sym writes.around.store) sound.ready;
-              room = subst (λ x. HasRoom (kept_of x)) (sym writes.around.store) sound.room;
-              swap = subst (λ x. IsReady h x) (sym writes.around.swap) sound.swap;
-              fit = fit_stored before after pid (addr / 4096) backing n bytes sound.fit placed.usable writes.frames beside;
-            };
+            sound = sound_beside old new g h writes.around.store (subst (λ x. IsReady h x) (sym writes.around.swap) sound.swap)
+                (fit_stored before after pid (addr / 4096) backing n bytes sound.fit placed.usable writes.frames beside) (marks_cached old new writes.around.cache) sound;
             room = room_stored before before after n bytes tends.proceeds.room writes.frames beside.slots;
             denied = λ e. absurd (let never : false ≡ true = e in cc);
             caused = record {
@@ -156,7 +152,7 @@ module _ {M : Type 0} {levels : Levels.Ghosts M} {D E : Type 0} (g : Ghosts D) (
       let keeps = write_keeps old.core new.core pid addr stored is.place core is.granted is.writes in
       let placed = (reached old.core pid addr stored.width Kinds.Store is.place core is.granted).placed in
       carries_out g h only_now old new new.core (Store pid addr stored) Done reply sound is.runs (λ s. refl) refl is.halted is.room is.done (λ s comes. is.past)
-      (on_page g h old.core new.core (Store pid addr stored) Done pid addr Kinds.Store keeps (write_carries old.core new.core pid addr stored is.place core is.granted is.writes) (λ s idle. idle)) (
+      (on_page g h old.core new.core (Store pid addr stored) Done pid addr Kinds.Store (refl, λ s. refl) keeps (write_carries old.core new.core pid addr stored is.place core is.granted is.writes) (λ s idle. idle)) (
         keeps.asks,
         λ place walked done. subst (λ (p : Phys). WritesNumber old.core new.core (p.0 / 4096) (addr % 4096) stored)
             (walked_same (picture_of old.core) pid addr stored.width Kinds.Store is.place place placed walked) (stored_there old.core new.core pid addr stored is.place core is.granted is.writes),
@@ -165,9 +161,9 @@ module _ {M : Type 0} {levels : Levels.Ghosts M} {D E : Type 0} (g : Ghosts D) (
   pub made : (only_now : OnlyNow g) (old new : Engine D E M levels) (command : Command) (reply : Reply) → IsSoundEngine g h old → HardwareMakes old new command reply
       → EngineCarriesOut g h old new command reply
   made only_now old new (Load pid addr width) reply sound is =
-      read_carried only_now old new pid addr width Kinds.Load reply sound is (Load pid addr width) (λ reads. reads.load refl) (λ asks. (asks, λ place walked. refl)) refl (λ s. refl) (λ s idle. idle) refl
+      read_carried only_now old new pid addr width Kinds.Load reply sound is (Load pid addr width) (λ reads. reads.load refl) (λ asks. (asks, λ place walked. refl)) refl (refl, λ s. refl) (λ s idle. idle) refl
   made only_now old new (Fetch pid addr) reply sound is =
-      read_carried only_now old new pid addr Four Kinds.Fetch reply sound is (Fetch pid addr) (λ reads. reads.fetch refl refl) (λ asks. (asks, λ place walked. refl)) refl (λ s. refl) (λ s idle. idle) refl
+      read_carried only_now old new pid addr Four Kinds.Fetch reply sound is (Fetch pid addr) (λ reads. reads.fetch refl refl) (λ asks. (asks, λ place walked. refl)) refl (refl, λ s. refl) (λ s idle. idle) refl
   made only_now old new (Store pid addr stored) reply sound is = store_made only_now old new pid addr stored reply sound is
   made only_now old new command reply sound is = absurd is
 

@@ -10,8 +10,11 @@ pub mod Hardware
 pub mod HardwareTells
 pub mod HardwareChance
 pub mod HardwareWalks
+pub mod Padded
 pub mod Prefixes
+pub mod Resizing
 pub mod Runs
 pub mod Steps
 pub mod StoreBoots
 pub mod Tidied
+pub mod Told

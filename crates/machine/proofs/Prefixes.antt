@@ -1,11 +1,12 @@
 -- The prefixes of the msyncs, command after command.
 use Rattle.machine.proofs.Names.{ℕ, zero, suc, ◌+◌, ◌≡◌, ◌≤◌, ◌⊎◌, inl, inr, ⊎_elim, Option, subst, Bool, true, false, if◌then◌else◌, List, [], ◌∷◌, Some, None, refl, sym, ap, ◌∙◌, arith, add-one, add-zero, Command, Msync, EIO, Reply, Refused, Halted, Ruling}
-use Rattle.machine.proofs.Names.{Takes, msync_ruling, Event, is_msync, is_done, may_have_taken, after_event, after_msyncs, this_or_further, acknowledged, IsPrefixHolding, Step, Answers, Fails, Stalls, Stays, Causes, State, IsRunning}
+use Rattle.machine.proofs.Names.{Takes, msync_ruling, Event, is_msync, is_done, may_have_taken, after_event, after_msyncs, this_or_further, acknowledged, IsPrefixHolding, Step, Answers, Fails, Lacks, Stalls, Stays, Causes, State, IsRunning}
 use Rattle.machine.{proofs.{Names.{outcome, msync_outcome, ruling, takes, commits, Contents}, Steps.{outcome_keeps, commit_takes}}, specs.{Chain.{event}, Engine.{HoldsIn, IsOneOf, stands_in}}}
 
 pub step_most : (causes : Causes) (s : State) (command : Command) (reply : Reply) (t : State) → Step causes s command reply t → t.most ≡ s.most
 step_most causes s command reply t (Answers run r e) = ap (λ (x : State). x.most) e ∙ (outcome_keeps s command).most
 step_most causes s command reply t (Fails after run c cause r e) = ap (λ (x : State). x.most) e
+step_most causes s command reply t (Lacks run lengths cause r e) = ap (λ (x : State). x.most) e
 step_most causes s command reply t (Stalls stall run may r e) = ap (λ (x : State). x.most) e
 step_most causes s command reply t (Stays ends is r e) = ap (λ (x : State). x.most) e
 
@@ -36,6 +37,8 @@ goes_on_or_fails causes s command reply t (Answers run r e) h =
     let kept = outcome_keeps s command in
     inl (ap (λ (x : State). x.ends) e ∙ kept.ends ∙ h, ap (λ (x : State). x.durable) e ∙ kept.durable_is ∙ sym (answered_event s command reply s.durable r))
 goes_on_or_fails causes s command reply t (Fails after run c cause r e) h = inr (record { after = after; commit = c; answer = r; ends = ap (λ (x : State). x.ends) e })
+goes_on_or_fails causes s command reply t (Lacks run lengths cause r e) h =
+    inl (ap (λ (x : State). x.ends) e ∙ h, ap (λ (x : State). x.durable) e ∙ sym (ap (λ (p : Reply). after_event (event s command p) s.durable) r))
 goes_on_or_fails causes s command reply t (Stalls stall run may r e) h =
     inl (ap (λ (x : State). x.ends) e ∙ h, ap (λ (x : State). x.durable) e ∙ sym (ap (λ (p : Reply). after_event (event s command p) s.durable) r))
 goes_on_or_fails causes s command reply t (Stays ends is r e) h = absurd (let k : Some ends ≡ None = sym is ∙ h in cc)
@@ -45,6 +48,7 @@ pub halted_stays : (causes : Causes) (s : State) (command : Command) (reply : Re
     → (reply ≡ Halted) × (t ≡ s)
 halted_stays causes s command reply t ends (Answers run r e) h = absurd (let k : Some ends ≡ None = sym h ∙ run in cc)
 halted_stays causes s command reply t ends (Fails after run c cause r e) h = absurd (let k : Some ends ≡ None = sym h ∙ run in cc)
+halted_stays causes s command reply t ends (Lacks run lengths cause r e) h = absurd (let k : Some ends ≡ None = sym h ∙ run in cc)
 halted_stays causes s command reply t ends (Stalls stall run may r e) h = absurd (let k : Some ends ≡ None = sym h ∙ run in cc)
 halted_stays causes s command reply t ends (Stays others is r e) h = (r, e)
 

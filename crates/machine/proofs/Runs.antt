@@ -47,7 +47,7 @@ module _ {D E : Type 0} (g : Ghosts D) (h : Ghosts E) where
   none_after ends old s [] [] [] new t c is k = refl
   none_after ends old s (x ∷ xs) (r ∷ rs) (e ∷ es) new t c is zero = refl
   none_after ends old s (x ∷ xs) (r ∷ rs) (e ∷ es) new t c is (suc k) =
-      let stays = halted_stays (causes g h old c.0) s x r c.1 ends (face g h old c.0 s c.1 x r c.3).step is in
+      let stays = halted_stays (causes g h old c.0 x) s x r c.1 ends (face g h old c.0 s c.1 x r c.3).step is in
       let rest = none_after ends c.0 c.1 xs rs es new t c.4 (ap (λ (y : State). y.ends) stays.1 ∙ is) k in
       subst (λ (first : Event). acknowledged (first ∷ es) (suc k) ≡ 0) (sym c.2) (halted_event s x r es k stays.0 rest)
   none_after ends old s commands replies events new t c is k = absurd c
@@ -64,7 +64,7 @@ module _ {D E : Type 0} (g : Ghosts D) (h : Ghosts E) where
       (⊎_elim
       (λ before. ⊎_elim (λ o. inl o) (λ p. inr (some_more _ _ (HoldsIn s x r) _ image refl (left_during s x r es) p)) (only.before m image le before))
       (λ p. inr (some_more _ _ (left_in c.1.ends c.1.durable es 0) _ image meets.size
-      (λ q later. left_first s.ends s.durable (event s x r ∷ es) 1 q (left_after (causes g h old c.0) s x r c.1 es 0 q meets.step (λ ends is. none_acknowledged es) later)) p))
+      (λ q later. left_first s.ends s.durable (event s x r ∷ es) 1 q (left_after (causes g h old c.0 x) s x r c.1 es 0 q meets.step (λ ends is. none_acknowledged es) later)) p))
       (leaves c.0 c.1 xs rs es new t c.4 keeps m image (omega (arith, le, only.later)) left))
   leaves old s commands replies events new t c keeps m image le left = absurd c
 
@@ -91,7 +91,7 @@ module _ {D E : Type 0} (g : Ghosts D) (h : Ghosts E) where
       let meets = face g h old c.0 s c.1 x r c.3 in
       subst (λ (first : Event). StandsForSome (g.sector_count (store_of old)) (left_in s.ends s.durable (first ∷ es) (suc k)) image) (sym c.2)
       (some_more _ _ (left_in c.1.ends c.1.durable es k) _ image meets.size
-      (λ q. left_after (causes g h old c.0) s x r c.1 es k q meets.step (λ ends is. none_after ends c.0 c.1 xs rs es new t c.4 is k))
+      (λ q. left_after (causes g h old c.0 x) s x r c.1 es k q meets.step (λ ends is. none_after ends c.0 c.1 xs rs es new t c.4 is k))
       (leaves_since c.0 c.1 xs rs es new t c.4 keeps only_now meets.shows k image left))
   leaves_since old s commands replies events new t c keeps only_now shows k image left = absurd c
 
@@ -109,7 +109,7 @@ module _ {D E : Type 0} (g : Ghosts D) (h : Ghosts E) where
       let meets = face g h old c.0 s c.1 x r c.3 in
       let only = meets.most_moments (chain_kept c.0 c.1 xs rs es new t c.4 keeps) in
       ⊎_elim (λ before. only.before m image le before)
-      (λ says. inr (same_most old c.0 s c.1 image meets.size (step_most (causes g h old c.0) s x r c.1 meets.step) says))
+      (λ says. inr (same_most old c.0 s c.1 image meets.size (step_most (causes g h old c.0 x) s x r c.1 meets.step) says))
       (most_leaves c.0 c.1 xs rs es new t c.4 keeps m image (omega (arith, le, only.later)) left)
   most_leaves old s commands replies events new t c keeps m image le left = absurd c
 
@@ -130,7 +130,7 @@ module _ {D E : Type 0} (g : Ghosts D) (h : Ghosts E) where
   most_since old s (x ∷ xs) (r ∷ rs) (e ∷ es) new t c keeps only_now shows zero image left = most_from old s (x ∷ xs) (r ∷ rs) (e ∷ es) new t c keeps only_now shows image left
   most_since old s (x ∷ xs) (r ∷ rs) (e ∷ es) new t c keeps only_now shows (suc k) image left =
       let meets = face g h old c.0 s c.1 x r c.3 in
-      same_most old c.0 s c.1 image meets.size (step_most (causes g h old c.0) s x r c.1 meets.step)
+      same_most old c.0 s c.1 image meets.size (step_most (causes g h old c.0 x) s x r c.1 meets.step)
       (most_since c.0 c.1 xs rs es new t c.4 keeps only_now meets.shows k image left)
   most_since old s commands replies events new t c keeps only_now shows k image left = absurd c
 

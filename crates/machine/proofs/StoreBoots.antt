@@ -2,14 +2,15 @@
 use Rattle.machine.proofs.Names.{ℕ, ◌≡◌, ◌≤◌, ◌*◌, ◌⊎◌, ◌∙◌, inl, inr, ⊎_elim, Bool, true, false, refl, sym, ap, subst, arith, cases_Bool}
 use Rattle.machine.proofs.Names.{LeavesNow, LeavesOnly, Image, MayLeave, Ghosts, holds_now, joined, weaker, asks_none, asks_then, asks_wider, StandsFor, StandsAs, file_info, standing_page, OpenFault}
 use Rattle.machine.specs.{Boot.{BootLeaves, IsAskedToBoot}, Fault.{boot_fault}, StoreBoot.{BootsStore, RefusesStore, RunsStoreBoot}}
-use Rattle.machine.specs.declared.boot.{BootFault.TheVariants.{Frames, Slots, Device, BadLayout, BadJournal}}
-use Rattle.std.specs.Prelude.{Result, Ok, Err}
+use Rattle.machine.specs.declared.boot.{BootFault.{BootFault}, BootFault.TheVariants.{Frames, Slots, Device, BadLayout, BadJournal, OutOfMemory}}
+use Rattle.std.specs.Prelude.{Result, Ok, Err, MatchResult}
 use Rattle.disk_model.specs.{Moments.{AsksOnly}, declared.sector_disk.DiskFault.{DiskFault}}
 use Rattle.file_store.specs.Standing.{AreBounded}
-use Rattle.stores.proofs.{Heads.{same_blocks, same_mark}, Said.{committed_inside, kind_outside, mark_outside, outside_alike, roomy, stands_as_said, stands_for_own, used_inside}}
-use Rattle.stores.specs.{Images.{is_pool, says_by, IsAskedToOpen, IsOutside, SaysMostOf}, Opened.{OpensFrom, RefusesToOpen, RunsOpening}, Rooms.{MakesRoomFor}}
-use Rattle.stores.specs.Store.{AnyDirectory, StoreKept, StoreKept.{OfJournal, OfPool}, always_free_in, capacity_in, disk_of, files_in, kept_of, IsUsedIn}
-use Rattle.stores.specs.declared.{faults.OpenFault.TheVariants.{Device as StoreDevice, BadLayout as StoreLayout, BadJournal as StoreJournal, Memory as StoreMemory}, store.Store.{Store}}
+use Rattle.stores.proofs.{Heads.{same_blocks, same_mark}, Says.{head_of}, Said.{committed_inside, kind_outside, mark_outside, outside_alike, roomy, stands_as_said, stands_for_own, used_inside}}
+use Rattle.stores.specs.{Images.{is_pool, most_pages, says_by, IsAskedToOpen, IsBadJournal, IsBadLayout, IsOutside, SaysMostOf}, Opened.{OpensFrom, RefusesToOpen, RunsOpening}, Rooms.{MakesRoomFor}}
+use Rattle.stores.specs.Store.{AnyDirectory, StoreKept, StoreKept.{OfJournal, OfPool}, always_free_in, capacity_in, disk_of, files_in, files_of, kept_of, HasRoom, IsReadyStore, IsUsedIn}
+use Rattle.sized_stores.specs.{Store.{can_resize_in, StartsSized}, declared.store.SizedStore.{SizedStore}}
+use Rattle.stores.specs.declared.{faults.OpenFault.TheVariants.{Device as StoreDevice, BadLayout as StoreLayout, BadJournal as StoreJournal, Memory as StoreMemory}, store.{Store.{Store}, Store.TheVariants.{Journal, Pool}}}
 
 -- a fault that is told is the one that came
 was_layout : (fault : OpenFault) → boot_fault fault ≡ BadLayout → fault ≡ StoreLayout
@@ -84,6 +85,65 @@ module _ {D : Type 0} (g : Ghosts D) where
     layout_first = λ keeps e. unopened.layout_first keeps (was_journal fault e);
     unwritten = λ keeps bad. unopened.unwritten keeps (no_device fault bad);
   }
+
+  -- A store that is open may give files other lengths where its image is one of a pool.
+  may_resize : (store : Store D) → IsReadyStore g store → g.keeps_model (disk_of store) → can_resize_in (kept_of store) ≡ is_pool (g.content (disk_of store))
+  may_resize (Journal store) ready keeps = sym (ready.1 keeps)
+  may_resize (Pool store) ready keeps = sym (head_of g store ready keeps).mark
+
+  -- A store is open for a machine that has no lengths of files beside it yet.
+  pub record IsBooted (entry : D) (store : Store D) : Type 0 where
+    pub run : RunsStoreBoot g entry (disk_of store)
+    pub ready : IsReadyStore g store
+    pub room : HasRoom (kept_of store)
+    pub bounded : AreBounded (files_of store)
+    pub resizes : g.keeps_model (disk_of store) → can_resize_in (kept_of store) ≡ is_pool (g.content entry)
+    pub layout : g.keeps_model (disk_of store) → IsBadLayout (g.sector_count entry) (g.content entry) → ⊥
+    pub journal : g.keeps_model (disk_of store) → IsBadJournal (g.sector_count entry) (g.content entry) → ⊥
+    pub now : g.keeps_model (disk_of store) → LeavesNow g (disk_of store) (StandsAs (g.sector_count entry) (g.content entry))
+    pub most_now : g.keeps_model (disk_of store) → LeavesNow g (disk_of store) (SaysMostOf (g.sector_count entry) (g.content entry))
+    pub most : g.keeps_model (disk_of store) → always_free_in (kept_of store) ≡ most_pages (g.sector_count entry) (g.content entry)
+    pub calm : g.failures (disk_of store) ≡ g.failures entry
+
+  -- It gets them,
+  boots_sized : (entry : D) (store : Store D) (sized : SizedStore D) → IsBooted entry store → StartsSized g store sized → BootsStore g entry sized
+  boots_sized entry store sized was starts =
+      let booted = subst (λ (x : Store D). IsBooted entry x) (sym starts.same) was in
+      record {
+        run = booted.run;
+        ready = starts.is_ready;
+        room = booted.room;
+        bounded = record { each = λ f k inside. booted.bounded.each f k (inside.0, sym (starts.files f) ∙ inside.1, inside.2) };
+        files = starts.files;
+        none = starts.none;
+        resizes = booted.resizes;
+        layout = booted.layout;
+        journal = booted.journal;
+        now = booted.now;
+        most_now = booted.most_now;
+        most = booted.most;
+        calm = booted.calm;
+      }
+
+  -- or there is no memory for them.
+  refuses_sized : (entry : D) (store : Store D) → IsBooted entry store → RefusesStore g entry OutOfMemory (disk_of store)
+  refuses_sized entry store booted = record {
+    err_run = booted.run;
+    sized = λ e. ⊎_elim (λ e'. cc) (λ e'. cc) e;
+    device = λ e. cc;
+    err_calm = λ other. booted.calm;
+    bad_layout = λ keeps e. cc;
+    bad_journal = λ keeps e. cc;
+    layout_first = λ keeps e bad. cc;
+    unwritten = λ keeps e. absurd (⊎_elim (λ e'. cc) (λ e'. cc) e);
+  }
+
+  pub sized_or_not : (entry : D) (store : Store D) → IsBooted entry store → (result : Result (SizedStore D) (BootFault × D))
+      → MatchResult result (λ sized. StartsSized g store sized) (λ e. (e.0 ≡ OutOfMemory) × (e.1 ≡ disk_of store))
+      → MatchResult result (λ sized. BootsStore g entry sized) (λ e. RefusesStore g entry e.0 e.1)
+  sized_or_not entry store booted (Ok sized) starts = boots_sized entry store sized booted starts
+  sized_or_not entry store booted (Err e) same =
+      subst (λ (fault : BootFault). RefusesStore g entry fault e.1) (sym same.0) (subst (λ (d : D). RefusesStore g entry OutOfMemory d) (sym same.1) (refuses_sized entry store booted))
 
   -- It is opened.
   module _ (entry : D) (mid : Store D) (opened : OpensFrom g entry mid) where
@@ -182,12 +242,14 @@ module _ {D : Type 0} (g : Ghosts D) where
 
     -- enough for every commit,
     pub boots_store : ((d : D) (t : ℕ) (c : Image) → g.keeps_model d → t ≤ g.moment d → MayLeave (g.content d) (g.unsynced d) c → g.left_since d t c)
-        → (count : ℕ) → count ≡ always_free_in (kept_of mid) → (new : Store D) → MakesRoomFor g count mid new (Ok (tt {0})) → BootsStore g entry new
+        → (count : ℕ) → count ≡ always_free_in (kept_of mid) → (new : Store D) → MakesRoomFor g count mid new (Ok (tt {0})) → IsBooted entry new
     boots_store counts_now count every new made = record {
       run = run count every new (Ok (tt {0})) made;
       ready = made.ready;
       room = (let free = made.room in let same = made.always in omega (arith, free, same, every));
       bounded = subst (λ (directory : AnyDirectory). AreBounded (files_in directory)) (sym made.files) opened.bounded;
+      resizes = λ keeps. may_resize new made.ready keeps
+          ∙ same_mark image (g.content (disk_of new)) (outside count every new (Ok (tt {0})) made keeps 0 (mark_outside n image) ∙ mark (made.kept keeps));
       layout = λ keeps. opened.good_layout (made.kept keeps);
       journal = λ keeps. opened.good_journal (made.kept keeps);
       now = now count every new (Ok (tt {0})) made;

@@ -1,10 +1,11 @@
 -- What a boot leaves, and when it gives up.
-use Rattle.std.specs.Prelude.{ℕ, ◌*◌, ◌^◌, ◌≡◌, ◌<◌, ◌≤◌, ◌⊎◌, true, false, None, []}
+use Rattle.std.specs.Prelude.{ℕ, ◌*◌, ◌^◌, ◌≡◌, ◌<◌, ◌≤◌, ◌⊎◌, true, false, Some, None, []}
 use Rattle.disk_model.specs.Moments.{Touches, AsksOnly, Nothing, LeavesOnly}
 use Rattle.disk_model.specs.Stop.{Image}
 use Rattle.disk_model.specs.declared.sector_disk.SectorDisk.{Ghosts}
 use Rattle.stores.specs.Images.{is_pool, most_pages, SaysMostOf, StandsForContents, StandsAs, IsBadLayout, IsBadJournal, IsAskedToOpen, IsOutside}
 use Rattle.vm_types.specs.State.{State, IsRunning}
+use Rattle.vm_types.specs.declared.file.FileInfo.{FileInfo}
 use Rattle.machine.specs.declared.boot.BootFault.{BootFault}
 use Rattle.machine.specs.declared.boot.BootFault.TheVariants.{Frames, Slots, Device, BadLayout, BadJournal}
 use Rattle.machine.specs.declared.config.Config.{Config}
@@ -24,11 +25,13 @@ HasBadSlots config sectors = (2 ^ 16 < config.slots) ⊎ (sectors < 8 * config.s
 abbrev pub IsAskedToBoot : ℕ → Image → ℕ → Type 0
 IsAskedToBoot sectors image k = IsAskedToOpen sectors image k ⊎ ((is_pool image ≡ true) × (IsOutside sectors image k → ⊥))
 
--- The flat model as it starts: no process, files that are as durable, of which nothing was stored to, and no objects.
+-- The flat model as it starts: no process, files that are as they are durably, their lengths included, with nothing stored to them, and no objects.
 pub record IsBootState (s : State) : Type 0 where
   pub live : (pid : ℕ) → s.live pid ≡ false
   pub views : (pid page : ℕ) → s.views pid page ≡ None
   pub files : (file : ℕ) → s.durable.files file ≡ s.files file
+  pub resized : (file : ℕ) → s.resized file ≡ false
+  pub shortest : (file : ℕ) (info : FileInfo) → s.files file ≡ Some info → s.shortest file ≡ info.length
   pub same : (file page : ℕ) → s.volatile file page ≡ s.durable.pages file page
   pub touched : (file page : ℕ) → s.touched file page ≡ false
   pub objects : (object page : ℕ) → s.objects object page ≡ None
@@ -65,6 +68,8 @@ module _ {D E : Type 0} (g : Ghosts D) (h : Ghosts E) where
     pub same_mode : state.mode ≡ bits_of (mode_of m)
     -- the image at entry stood for these files, with these bytes
     pub stands : g.keeps_model (store_of m) → StandsForContents (g.sector_count store) state.durable (g.content store)
+    -- files may get other lengths exactly where that image is of a store with a pool
+    pub resizes : g.keeps_model (store_of m) → state.resizes ≡ is_pool (g.content store)
     -- and an msync takes as many pages at most as that image says
     pub most : g.keeps_model (store_of m) → state.most ≡ most_pages (g.sector_count store) (g.content store)
 

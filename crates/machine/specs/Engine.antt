@@ -1,6 +1,6 @@
 -- How the machine of one mode is a state of the flat model, stops included.
 use Rattle.vm_types.specs.declared.mode.Levels as Levels
-use Rattle.std.specs.Prelude.{ℕ, ◌≡◌, ◌≢◌, ◌⊎◌, true, false, List, [], ◌∷◌, Option, Some, None, is_some}
+use Rattle.std.specs.Prelude.{ℕ, ◌≡◌, ◌≢◌, ◌⊎◌, true, false, List, [], ◌∷◌, length, Option, Some, None, is_some}
 use Rattle.disk_model.specs.Moments.{LeavesNow, LeavesOnly}
 use Rattle.disk_model.specs.Stop.{Image}
 use Rattle.disk_model.specs.declared.sector_disk.SectorDisk.{Ghosts}
@@ -10,13 +10,16 @@ use Rattle.residency.specs.Picture.{picture_of}
 use Rattle.stores.specs.Images.{StandsForContents}
 use Rattle.residency.specs.Shows.{ShowsPages}
 use Rattle.fault.specs.Changes.{KeepsRoom}
-use Rattle.ranges.specs.Steps.{KeepsDevices}
+use Rattle.residency.specs.declared.kernel.Core.{Core}
+use Rattle.sized_stores.specs.Store.{can_resize, directory_of, disk_of, durable_files_of, is_resized_in, shortest_in}
+use Rattle.sized_stores.specs.declared.store.SizedStore.{SizedStore}
+use Rattle.msync.specs.Core.{KeepsAll}
 use Rattle.msync.specs.Shows.{HasSyncRoom, IsSoundCore, SaysMost}
 use Rattle.spaces.specs.Calls as Calls
 use Rattle.spaces.specs.Idle.{is_idle}
 use Rattle.vm_types.specs.declared.command.Command.{Command}
 use Rattle.vm_types.specs.declared.refusal.Errno.{Errno}
-use Rattle.vm_types.specs.declared.refusal.Errno.TheVariants.{EIO}
+use Rattle.vm_types.specs.declared.refusal.Errno.TheVariants.{EIO, ENOSPC}
 use Rattle.vm_types.specs.declared.refusal.Fault.{Fault}
 use Rattle.vm_types.specs.declared.refusal.Stall.{Stall}
 use Rattle.vm_types.specs.declared.reply.Reply.{Reply}
@@ -28,7 +31,6 @@ use Rattle.vm_types.specs.Stalls.{reads_files, reads_swap}
 use Rattle.vm_types.specs.State.{State, IsRunning}
 use Rattle.vm_types.specs.Step.{ruling, takes}
 use Rattle.machine.specs.declared.engine.Engine.{Engine}
-use Rattle.stores.specs.Store.{disk_of}
 
 -- one of a list of contents
 abbrev pub IsOneOf : Contents → List Contents → Type 0
@@ -52,30 +54,48 @@ HoldsIn s command reply contents =
 abbrev pub StandsForSome : ℕ → (Contents → Type 0) → Image → Type 0
 StandsForSome sectors P image = (contents : Contents) × P contents × StandsForContents sectors contents image
 
+-- What a store keeps of its files is what a state says:
+pub record TellsFiles {D : Type 0} (store : SizedStore D) (s : State) : Type 0 where
+  -- those that are durable, whose pages have 4,096 bytes each;
+  pub files : (f : ℕ) → s.durable.files f ≡ durable_files_of store f
+  pub whole : (f k : ℕ) → length (s.durable.pages f k) ≡ 4096
+  -- whether they may get other lengths, and which have got one and how short they have been since theirs were made durable.
+  pub resizes : s.resizes ≡ can_resize store
+  pub resized : (f : ℕ) → s.resized f ≡ is_resized_in store.sizes.items f
+  pub shortest : (f : ℕ) → s.shortest f ≡ shortest_in (directory_of store) f
+
 module _ {M : Type 0} {levels : Levels.Ghosts M} {D E : Type 0} where
+  -- A call asked neither device: what is durable and its device are as they were, the lengths of files too, and so are the slots and their device.
+  pub record AsksNeither (old new : Core D E M levels) : Type 0 where
+    pub store : new.store.store ≡ old.store.store
+    pub sizes : new.store.sizes.items ≡ old.store.sizes.items
+    pub pages : new.swap.pages ≡ old.swap.pages
+
   -- A command that was not carried out leaves memory and both devices as they were.
   pub record KeepsIfDenied (old new : Engine D E M levels) (command : Command) (reply : Reply) : Type 0 where
-    -- a call that was refused; EIO alone comes of an msync that was begun
-    pub refused : (errno : Errno) → reply ≡ Refused errno → errno ≢ EIO → new.core ≡ old.core
+    -- a call that was refused; EIO alone comes of an msync that was begun. One that is refused with ENOSPC since the store has no room for lengths
+    -- may have listed them in the store's room, and leaves all else as it was
+    pub refused : (errno : Errno) → reply ≡ Refused errno → errno ≢ EIO
+        → (new.core ≡ old.core) ⊎ ((is_msync command ≡ true) × (errno ≡ ENOSPC) × KeepsAll old.core new.core)
     -- an access that faulted: the history alone notes it (no msync faults)
     pub faulted : is_msync command ≡ false → (fault : Fault) → reply ≡ Faulted fault → new.core ≡ old.core
     -- any command of a halted machine, which leaves its history, too
     pub halted : old.halted ≡ true → new ≡ old
 
 module _ {M : Type 0} {levels : Levels.Ghosts M} {D E : Type 0} (g : Ghosts D) (h : Ghosts E) where
-  -- The engine may go on: it has room for as many pages as an msync takes, and unless it has halted, its store may be read and
+  -- The engine may go on: it has room for what an msync takes, and unless it has halted, its store may be read and
   -- committed to, slots may be put and got, and its memory is fit.
   pub record IsSoundEngine (m : Engine D E M levels) : Type 0 where
     pub room : HasSyncRoom g m.core m.sync_room
     pub going : m.halted ≡ false → IsSoundCore g h m.core
 
-  -- The engine is in that state: its memory shows it, its room is that for an msync, the durable files are those that it shows, and every image
+  -- The engine is in that state: its memory shows it, its store keeps the files that it says, its room is that for an msync, and every image
   -- that a stop may leave now shows it, too, with as many pages of an msync.
   pub record EngineShows (m : Engine D E M levels) (s : State) : Type 0 where
     pub pages : ShowsPages (picture_of m.core) s
+    pub tells : TellsFiles m.core.store s
     pub running : is_some s.ends ≡ m.halted
     pub past : m.past ≡ s.past
-    pub files : (f : ℕ) → s.durable.files f ≡ s.files f
     pub most : s.most ≡ m.sync_room.most
     pub stands : g.keeps_model (disk_of m.core.store)
         → LeavesNow g (disk_of m.core.store) (StandsForSome (g.sector_count (disk_of m.core.store)) (MayStand s))
@@ -84,7 +104,7 @@ module _ {M : Type 0} {levels : Levels.Ghosts M} {D E : Type 0} (g : Ghosts D) (
   -- A command was carried out: as the flat model does, stalled for want of memory only where that is short, with as many frames and
   -- slots as there were, and with nothing else durable at any moment, nor another number of pages of an msync.
   pub record EngineMeets (old new : Engine D E M levels) (s t : State) (command : Command) (reply : Reply) : Type 0 where
-    pub step : Step (Calls.causes g h old.core new.core) s command reply t
+    pub step : Step (Calls.causes g h old.core new.core command) s command reply t
     pub shows : EngineShows new t
     pub capacity : (stall : Stall) → reply ≡ Stalled stall → Calls.FallsShort (frame_count new.core.frames) (slots_of new.core.swap).total s command stall
     pub room : KeepsRoom (picture_of old.core) (picture_of new.core)
@@ -92,7 +112,7 @@ module _ {M : Type 0} {levels : Levels.Ghosts M} {D E : Type 0} (g : Ghosts D) (
     pub swap_size : h.sector_count new.core.swap.pages.disk ≡ h.sector_count old.core.swap.pages.disk
     pub kept : g.keeps_model (disk_of new.core.store) → g.keeps_model (disk_of old.core.store)
     pub swap_kept : h.keeps_model new.core.swap.pages.disk → h.keeps_model old.core.swap.pages.disk
-    pub idle : is_idle s command reply ≡ true → KeepsDevices old.core new.core
+    pub idle : is_idle s command reply ≡ true → AsksNeither old.core new.core
     pub moments : g.keeps_model (disk_of new.core.store)
         → LeavesOnly g (disk_of old.core.store) (disk_of new.core.store) (StandsForSome (g.sector_count (disk_of old.core.store)) (HoldsIn s command reply))
     pub most_moments : g.keeps_model (disk_of new.core.store) → LeavesOnly g (disk_of old.core.store) (disk_of new.core.store) (SaysMost (g.sector_count (disk_of old.core.store)) s.most)

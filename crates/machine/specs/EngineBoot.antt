@@ -2,7 +2,7 @@
 use Rattle.vm_types.specs.declared.mode.Levels as Levels
 use Rattle.std.specs.Prelude.{◌≡◌}
 use Rattle.disk_model.specs.declared.sector_disk.SectorDisk.{Ghosts}
-use Rattle.stores.specs.Images.{most_pages, StandsForContents}
+use Rattle.stores.specs.Images.{is_pool, most_pages, StandsForContents}
 use Rattle.frames.specs.FrameTable.{frame_count}
 use Rattle.swap.specs.Slots.{slots_of}
 use Rattle.residency.specs.Calls.{IsStart}
@@ -11,7 +11,7 @@ use Rattle.machine.specs.Boot.{IsBootState}
 use Rattle.machine.specs.Engine.{EngineShows}
 use Rattle.machine.specs.declared.config.Config.{Config}
 use Rattle.machine.specs.declared.engine.Engine.{Engine}
-use Rattle.stores.specs.Store.{disk_of}
+use Rattle.sized_stores.specs.Store.{disk_of}
 
 module _ {M : Type 0} {levels : Levels.Ghosts M} where
   -- The engine starts with
@@ -36,5 +36,7 @@ module _ {M : Type 0} {levels : Levels.Ghosts M} {D E : Type 0} (g : Ghosts D) (
     pub fresh : IsStart m.core (frame_count m.core.frames) (slots_of m.core.swap).total
     -- the image at entry stood for these files, with these bytes
     pub stands : g.keeps_model (disk_of m.core.store) → StandsForContents (g.sector_count store) state.durable (g.content store)
+    -- files may get other lengths exactly where that image is of a store with a pool
+    pub resizes : g.keeps_model (disk_of m.core.store) → state.resizes ≡ is_pool (g.content store)
     -- and an msync takes as many pages at most as that image says
     pub most : g.keeps_model (disk_of m.core.store) → state.most ≡ most_pages (g.sector_count store) (g.content store)

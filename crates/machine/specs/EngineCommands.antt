@@ -10,7 +10,7 @@ use Rattle.vm_types.specs.State.{State}
 use Rattle.machine.specs.Accesses.{Accesses}
 use Rattle.machine.specs.Engine.{EngineMayRead, EngineMeets, EngineShows, IsSoundEngine, KeepsIfDenied}
 use Rattle.machine.specs.declared.engine.Engine.{Engine}
-use Rattle.stores.specs.Store.{disk_of}
+use Rattle.sized_stores.specs.Store.{disk_of}
 
 module _ {M : Type 0} {levels : Levels.Ghosts M} {D E : Type 0} (g : Ghosts D) (h : Ghosts E) where
   -- Whatever comes of a command,

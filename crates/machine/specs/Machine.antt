@@ -16,7 +16,7 @@ use Rattle.machine.specs.Engine.{EngineShows, EngineMeets, EngineMayRead, IsSoun
 use Rattle.machine.specs.declared.engine.Engine.{Engine}
 use Rattle.machine.specs.declared.machine.Machine.{Machine}
 use Rattle.machine.specs.declared.machine.Machine.TheVariants.{Sv39, Sv48}
-use Rattle.stores.specs.Store.{disk_of}
+use Rattle.sized_stores.specs.Store.{disk_of}
 
 -- the bits of an address in a mode, by which a state of the flat model tells its mode
 abbrev pub bits_of : Mode → ℕ
@@ -80,6 +80,10 @@ module _ {D E : Type 0} where
   InSameMode P (Sv48 old) (Sv48 new) = P _ _ old new
   InSameMode P (Sv39 old) (Sv48 new) = ⊥
   InSameMode P (Sv48 old) (Sv39 new) = ⊥
+
+  -- The command is an msync, and the machine's store has no room for the lengths and pages that it takes.
+  abbrev pub LacksRoom : Machine D E → Command → Type 0
+  LacksRoom m command = InMode (λ M levels engine. Calls.LacksRoomFor engine.core command) m
 
   -- Memory as a boot leaves it: no frame is taken but the zero page, no slot, there is no process, every page of a file or an object is
   -- at home and untouched, and no request for a frame was refused.

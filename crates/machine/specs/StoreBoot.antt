@@ -1,11 +1,12 @@
 -- How a boot opens its store.
-use Rattle.std.specs.Prelude.{ℕ, ◌≡◌, ◌<◌, ◌≤◌, ◌⊎◌}
+use Rattle.std.specs.Prelude.{ℕ, ◌≡◌, ◌<◌, ◌≤◌, ◌⊎◌, false}
 use Rattle.disk_model.specs.Moments.{Touches, AsksOnly, Nothing, LeavesNow}
 use Rattle.disk_model.specs.declared.sector_disk.SectorDisk.{Ghosts}
 use Rattle.file_store.specs.Standing.{AreBounded}
-use Rattle.stores.specs.Images.{most_pages, SaysMostOf, StandsAs, IsBadLayout, IsBadJournal, IsOutside}
-use Rattle.stores.specs.Store.{disk_of, kept_of, files_of, always_free_in, HasRoom, IsReadyStore}
-use Rattle.stores.specs.declared.store.Store.{Store}
+use Rattle.stores.specs.Images.{is_pool, most_pages, SaysMostOf, StandsAs, IsBadLayout, IsBadJournal, IsOutside}
+use Rattle.stores.specs.Store.{always_free_in, HasRoom}
+use Rattle.sized_stores.specs.Store.{can_resize, disk_of, durable_files_of, kept_of, files_of, is_resized_in, IsReadySized}
+use Rattle.sized_stores.specs.declared.store.SizedStore.{SizedStore}
 use Rattle.machine.specs.declared.boot.BootFault.{BootFault}
 use Rattle.machine.specs.declared.boot.BootFault.TheVariants.{Frames, Slots, Device, BadLayout, BadJournal}
 use Rattle.machine.specs.Boot.{IsAskedToBoot, BootLeaves}
@@ -24,13 +25,17 @@ module _ {D : Type 0} (g : Ghosts D) where
     pub leaves : BootLeaves g entry new
 
   -- The store on a device is opened for a machine:
-  pub record BootsStore (entry : D) (store : Store D) : Type 0 where
+  pub record BootsStore (entry : D) (store : SizedStore D) : Type 0 where
     pub run : RunsStoreBoot entry (disk_of store)
     pub open run use *
     -- it may be read, and committed to, the next commit taking as many pages as every one, and its files' numbers and lengths are in their bounds;
-    pub ready : IsReadyStore g store
+    pub ready : IsReadySized g store
     pub room : HasRoom (kept_of store)
     pub bounded : AreBounded (files_of store)
+    -- these have the lengths that they have durably, and may get other ones exactly where its image is of a store with a pool;
+    pub files : (f : ℕ) → files_of store f ≡ durable_files_of store f
+    pub none : (f : ℕ) → is_resized_in store.sizes.items f ≡ false
+    pub resizes : g.keeps_model (disk_of store) → can_resize store ≡ is_pool (g.content entry)
     -- its image was that of a store, stands for what it did, from now on, and says so of as many pages as it did, which every commit may take;
     pub layout : g.keeps_model (disk_of store) → IsBadLayout (g.sector_count entry) (g.content entry) → ⊥
     pub journal : g.keeps_model (disk_of store) → IsBadJournal (g.sector_count entry) (g.content entry) → ⊥

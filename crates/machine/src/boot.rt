@@ -1,17 +1,20 @@
 //! Starting the machine of one mode.
-ghost use Rattle.stores.specs.Store.{disk_of};
+ghost use Rattle.stores.specs.Store as Durable;
+ghost use Rattle.sized_stores.specs.Store.{disk_of, StartsSized};
 ghost use Rattle.std.specs.Prelude.{◌≡◌, IfOk, IfErr, MatchResult};
 ghost use Rattle.machine.specs.Engine.{IsSoundEngine};
 ghost use Rattle.machine.specs.Boot.{BootAccepts, BootLeaves, BootRefuses};
 ghost use Rattle.machine.specs.StoreBoot.{BootsStore, RefusesStore};
 ghost use Rattle.machine.specs.EngineBoot.{EngineBoots, EngineStarts};
 ghost use Rattle.machine.specs.Fault.{fault_number, boot_fault};
+ghost use Rattle.machine.specs.declared.boot.BootFault.TheVariants.{OutOfMemory};
 
 use crate::config::Config;
-use crate::engine::Engine;
+use crate::engine::{Engine, device_of};
 use crate::fault_log::FaultLog;
 use disk_model::{DiskFault, SectorDisk};
 use residency::Core;
+use sized_stores::SizedStore;
 use spaces::{RegionRoom, SyncRoom};
 use std::alloc::Global;
 use stores::{OpenFault, Store};
@@ -106,14 +109,15 @@ impl<D: SectorDisk, E: SectorDisk + Drop, M: Levels> Engine<D, E, M> {
             Err(fault) => return Err(fault),
         };
         let Ok(past) = FaultLog::new(alloc) else {
-            return Err((BootFault::OutOfMemory, store.into_disk()));
+            return Err((BootFault::OutOfMemory, device_of(store)));
         };
         let Ok(swap) = Swap::new(alloc, swap, config.slots) else {
-            return Err((BootFault::OutOfMemory, store.into_disk()));
+            return Err((BootFault::OutOfMemory, device_of(store)));
         };
         let nodes = config.frames + config.slots;
-        let Ok(sync_room) = SyncRoom::new(alloc, store.always_free_pages(), nodes) else {
-            return Err((BootFault::OutOfMemory, store.into_disk()));
+        let most = store.store.always_free_pages();
+        let Ok(sync_room) = SyncRoom::new(alloc, most, nodes, store.sizes.len()) else {
+            return Err((BootFault::OutOfMemory, device_of(store)));
         };
         match Core::new(alloc, store, swap, config.frames, config.slots) {
             Ok(core) => Ok(Engine {
@@ -123,13 +127,13 @@ impl<D: SectorDisk, E: SectorDisk + Drop, M: Levels> Engine<D, E, M> {
                 sync_room,
                 region_room: RegionRoom::new(),
             }),
-            Err((_, store)) => Err((BootFault::OutOfMemory, store.into_disk())),
+            Err((_, store)) => Err((BootFault::OutOfMemory, device_of(store))),
         }
     }
 }
 
-/// Opens the store on a device, and makes room in it for as many pages as every commit may take.
-fn open_store<D: SectorDisk>(alloc: Global, disk: D) -> Result<Store<D>, (BootFault, D)>
+/// Opens the store on a device, makes room in it for as many pages as every commit may take, and takes memory for other lengths of its files.
+fn open_store<D: SectorDisk>(alloc: Global, disk: D) -> Result<SizedStore<D>, (BootFault, D)>
     ensures { MatchResult result (λ store. BootsStore D.SectorDisk disk store) (λ e. RefusesStore D.SectorDisk disk e.0 e.1) }
 {
     let mut store = match Store::open(alloc, disk) {
@@ -137,7 +141,22 @@ fn open_store<D: SectorDisk>(alloc: Global, disk: D) -> Result<Store<D>, (BootFa
         Err((fault, disk)) => return Err((BootFault::from(fault), disk)),
     };
     match store.make_room_for(store.always_free_pages()) {
-        Ok(()) => Ok(store),
+        Ok(()) => with_lengths(alloc, store),
         Err(DiskFault) => Err((BootFault::Device, store.into_disk())),
+    }
+}
+
+/// An open store with memory for other lengths of its files, which have those that they have durably. `OutOfMemory` where the host has not
+/// enough of it; the device is given back then.
+fn with_lengths<D: SectorDisk>(
+    alloc: Global,
+    store: Store<D>,
+) -> Result<SizedStore<D>, (BootFault, D)>
+    requires { Durable.IsReadyStore D.SectorDisk store }
+    ensures { MatchResult result (λ sized. StartsSized D.SectorDisk store sized) (λ e. (e.0 ≡ OutOfMemory) × (e.1 ≡ Durable.disk_of store)) }
+{
+    match SizedStore::new(alloc, store) {
+        Ok(store) => Ok(store),
+        Err(store) => Err((BootFault::OutOfMemory, store.into_disk())),
     }
 }

@@ -1,5 +1,5 @@
 //! The machine of one mode: commands in, replies out, over a store that survives stops.
-ghost use Rattle.stores.specs.Store.{disk_of};
+ghost use Rattle.sized_stores.specs.Store.{disk_of};
 ghost use Rattle.std.specs.Prelude.{◌≡◌, ◌≤◌, ◌<◌, ◌↔◌, is_some, true, IfSome, IsNone};
 ghost use Rattle.vm_types.specs.State.{State, IsRunning};
 ghost use Rattle.machine.specs.Engine.{IsSoundEngine, EngineShows};
@@ -12,8 +12,9 @@ ghost use Rattle.machine.specs.EngineCommands.{EngineCarriesOut};
 ghost use Rattle.machine.specs.Tidy.{IsTidy};
 
 use crate::fault_log::FaultLog;
-use disk_model::SectorDisk;
+use disk_model::{SectorDisk, WriteZeros};
 use residency::Core;
+use sized_stores::SizedStore;
 use spaces::{MapRequest, ProtectRequest, RegionRoom, SyncRoom};
 use vm_types::{Answer, Command, History, Levels, Reply};
 
@@ -26,7 +27,7 @@ pub struct Engine<D, E, M: Levels> {
     pub(crate) halted: bool,
     /// The last faults of accesses.
     pub(crate) past: FaultLog,
-    /// Where msyncs keep their pages.
+    /// Where msyncs list what they take.
     pub(crate) sync_room: SyncRoom,
     /// Where calls put the regions that a process gets.
     pub(crate) region_room: RegionRoom<M>,
@@ -37,16 +38,16 @@ impl<D: SectorDisk, E: SectorDisk, M: Levels> Engine<D, E, M> {
     pub fn store(&self) -> &D
         ensures { result.now ≡ disk_of self.now.core.store }
     {
-        self.core.store.disk()
+        self.core.store.store.disk()
     }
 
-    /// The store's device, given back. What was stored and not made durable is lost.
+    /// The store's device, given back. What was stored, and lengths that files got, are lost where they weren't made durable.
     pub fn into_store(self) -> D
     where
         E: Drop,
         ensures { result ≡ (disk_of self.core.store) }
     {
-        self.core.store.into_disk()
+        device_of(self.core.store)
     }
 
     /// Whether an msync returned `EIO`: every command then returns `Halted`, and none otherwise.
@@ -67,6 +68,21 @@ impl<D: SectorDisk, E: SectorDisk, M: Levels> Engine<D, E, M> {
         if self.halted { None } else { Some(&self.core) }
     }
 
+    /// How many accesses have found the translation of their page kept from an earlier one (RISC-V Privileged Specification,
+    /// "Supervisor Memory-Management Fence Instruction"); it stays at its greatest value. No clause speaks of it.
+    pub fn hits(&self) -> u64 {
+        self.core.frames.hits()
+    }
+
+    /// The last faults of accesses, oldest first, each with its process: 16 at most.
+    pub fn history(&self) -> History
+        ensures { result ≡ self.now.past }
+    {
+        self.past.history()
+    }
+}
+
+impl<D: WriteZeros, E: SectorDisk, M: Levels> Engine<D, E, M> {
     /// Carries out one command, as `step` does, and returns the reply in the few bytes that all but a history take. `None` where
     /// the reply is the history, which `history` returns. It takes no memory of the host.
     pub fn carry_out(&mut self, command: Command) -> Option<Answer>
@@ -116,6 +132,7 @@ impl<D: SectorDisk, E: SectorDisk, M: Levels> Engine<D, E, M> {
                 mode,
             } => Some(self.msync(pid, addr, len, mode)),
             Command::Dontneed { pid, addr, len } => Some(spaces::dontneed(core, pid, addr, len)),
+            Command::Truncate { file, length } => Some(spaces::truncate(core, file, length)),
             Command::Load { pid, addr, width } => {
                 let answer = spaces::load(core, pid, addr, width);
                 Some(self.noted(pid, answer))
@@ -132,25 +149,13 @@ impl<D: SectorDisk, E: SectorDisk, M: Levels> Engine<D, E, M> {
         }
     }
 
-    /// How many accesses have found the translation of their page kept from an earlier one (RISC-V Privileged Specification,
-    /// "Supervisor Memory-Management Fence Instruction"); it stays at its greatest value. No clause speaks of it.
-    pub fn hits(&self) -> u64 {
-        self.core.frames.hits()
-    }
-
-    /// The last faults of accesses, oldest first, each with its process: 16 at most.
-    pub fn history(&self) -> History
-        ensures { result ≡ self.now.past }
-    {
-        self.past.history()
-    }
-
     /// Carries out one command. It takes no memory of the host. A command that would succeed may stall, and then has
     /// changed nothing that a process or a file shows: `NoFrames` only where memory has fewer frames than the tables of the
     /// state after it and three more, `NoSwap` only where there are fewer slots than pages that processes have of their own,
     /// touched file pages and stored pages of shared anonymous memory, `SwapDevice` and `StoreDevice` only where that device
     /// failed in this call. Where the store fails in an msync it returns `EIO`, only where the device failed in this call, and
-    /// the machine halts: from then on every command returns `Halted`.
+    /// the machine halts: from then on every command returns `Halted`. For want of room in the store an msync returns `ENOSPC` only
+    /// where that has none for the lengths of files and the pages that it takes; then nobody sees a change, and the machine goes on.
     pub fn step(&mut self, command: Command) -> Reply
         requires sound { IsSoundEngine D.SectorDisk E.SectorDisk self.old }
         ensures carries { EngineCarriesOut D.SectorDisk E.SectorDisk self.old self.new command result }
@@ -180,4 +185,11 @@ impl<D: SectorDisk, E: SectorDisk, M: Levels> Engine<D, E, M> {
         }
         answer
     }
+}
+
+/// The device of a store, given back.
+pub(crate) fn device_of<D: SectorDisk>(store: SizedStore<D>) -> D
+    ensures { result ≡ disk_of store }
+{
+    store.store.into_disk()
 }

@@ -11,7 +11,7 @@ ghost use Rattle.machine.specs.Machine.{store_of, swap_of, halted_of, past_of, I
 use crate::boot::BootFault;
 use crate::config::Config;
 use crate::engine::Engine;
-use disk_model::SectorDisk;
+use disk_model::{SectorDisk, WriteZeros};
 use std::alloc::Global;
 use vm_types::{Answer, Command, History, Mode, Reply, Sv39, Sv48};
 
@@ -38,7 +38,7 @@ impl<D: SectorDisk, E: SectorDisk> Machine<D, E> {
         }
     }
 
-    /// The store's device, given back. What was stored and not made durable is lost.
+    /// The store's device, given back. What was stored, and lengths that files got, are lost where they weren't made durable.
     pub fn into_store(self) -> D
     where
         E: Drop,
@@ -61,22 +61,6 @@ impl<D: SectorDisk, E: SectorDisk> Machine<D, E> {
         }
     }
 
-    /// Carries out one command, as `step` does, and returns the reply in the few bytes that all but a history take. `None` where
-    /// the reply is the history, which `history` returns. It takes no memory of the host.
-    pub fn carry_out(&mut self, command: Command) -> Option<Answer>
-        requires sound { IsSoundMachine D.SectorDisk E.SectorDisk self.old }
-        ensures sound { IsSoundMachine D.SectorDisk E.SectorDisk self.new }
-        ensures keeps { KeepsModelsAndRoom D.SectorDisk E.SectorDisk self.old self.new }
-        ensures does { DoesAsTold D.SectorDisk E.SectorDisk self.old self.new command (told (past_of self.new) result) }
-        ensures meets { (s : State) → Shows D.SectorDisk E.SectorDisk self.old s → IsReadable D.SectorDisk E.SectorDisk self.new s command
-            → (t : State) × Meets D.SectorDisk E.SectorDisk self.old self.new s t command (told (past_of self.new) result) }
-    {
-        match self {
-            Machine::Sv39(engine) => engine.carry_out(command),
-            Machine::Sv48(engine) => engine.carry_out(command),
-        }
-    }
-
     /// How many accesses have found the translation of their page kept from an earlier one (RISC-V Privileged Specification,
     /// "Supervisor Memory-Management Fence Instruction"); it stays at its greatest value. No clause speaks of it.
     pub fn hits(&self) -> u64 {
@@ -95,13 +79,32 @@ impl<D: SectorDisk, E: SectorDisk> Machine<D, E> {
             Machine::Sv48(engine) => engine.history(),
         }
     }
+}
+
+impl<D: WriteZeros, E: SectorDisk> Machine<D, E> {
+    /// Carries out one command, as `step` does, and returns the reply in the few bytes that all but a history take. `None` where
+    /// the reply is the history, which `history` returns. It takes no memory of the host.
+    pub fn carry_out(&mut self, command: Command) -> Option<Answer>
+        requires sound { IsSoundMachine D.SectorDisk E.SectorDisk self.old }
+        ensures sound { IsSoundMachine D.SectorDisk E.SectorDisk self.new }
+        ensures keeps { KeepsModelsAndRoom D.SectorDisk E.SectorDisk self.old self.new }
+        ensures does { DoesAsTold D.SectorDisk E.SectorDisk self.old self.new command (told (past_of self.new) result) }
+        ensures meets { (s : State) → Shows D.SectorDisk E.SectorDisk self.old s → IsReadable D.SectorDisk E.SectorDisk self.new s command
+            → (t : State) × Meets D.SectorDisk E.SectorDisk self.old self.new s t command (told (past_of self.new) result) }
+    {
+        match self {
+            Machine::Sv39(engine) => engine.carry_out(command),
+            Machine::Sv48(engine) => engine.carry_out(command),
+        }
+    }
 
     /// Carries out one command. It takes no memory of the host. A command that would succeed may stall, and then has
     /// changed nothing that a process or a file shows: `NoFrames` only where memory has fewer frames than the tables of the
     /// state after it and three more, `NoSwap` only where there are fewer slots than pages that processes have of their own,
     /// touched file pages and stored pages of shared anonymous memory, `SwapDevice` and `StoreDevice` only where that device
     /// failed in this call. Where the store fails in an msync it returns `EIO`, only where the device failed in this call, and
-    /// the machine halts: from then on every command returns `Halted`.
+    /// the machine halts: from then on every command returns `Halted`. For want of room in the store an msync returns `ENOSPC` only
+    /// where that has none for the lengths of files and the pages that it takes; then nobody sees a change, and the machine goes on.
     pub fn step(&mut self, command: Command) -> Reply
         requires sound { IsSoundMachine D.SectorDisk E.SectorDisk self.old }
         ensures sound { IsSoundMachine D.SectorDisk E.SectorDisk self.new }

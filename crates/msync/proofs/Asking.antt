@@ -1,7 +1,7 @@
 -- Which sectors are asked for, from one page that is read up to the whole call.
-use Rattle.msync.proofs.Names.{◌≡◌, ◌<◌, ◌≤◌, ℕ, List, length, take, sym, ◌∙◌, subst, arith, AsksOnly, Ghosts, asks_wider, IsSectorOfSlot, FilePage, File, SlotNo, Picture}
-use Rattle.msync.specs.{Asking.{IsSectorOfFilePage, IsSectorListed, IsSectorTaken}, Choice.{Chosen, chosen_of, chosen_page, AreTaken}, Spots.{spot_at, place_at, IsSectorThere, IsSectorOfSpots, HasSpots}}
-use Rattle.msync.{specs.{declared.chosen.Residence.{Residence}, declared.chosen.Residence.TheVariants.{Framed, Slotted}, declared.chosen.Ruling.TheVariants.{Takes}, declared.chosen.Spot.{Spot}}, proofs.Committing.{front_length, front_same}}
+use Rattle.msync.proofs.{Committing.{front_length, front_same}, Names.{◌≡◌, ◌<◌, ◌≤◌, ℕ, List, length, take, sym, ◌∙◌, subst, arith, AsksOnly, Ghosts, asks_wider, IsSectorOfSlot, FilePage, File, SlotNo, Picture}}
+use Rattle.msync.specs.{Asking.{IsSectorOfFilePage, IsSectorListed, IsSectorTaken}, Choice.{Chosen, chosen_page, AreThoseTaken}, Spots.{spot_at, place_at, IsSectorThere, IsSectorOfSpots, HasSpots}, declared.chosen.Residence.{Residence}}
+use Rattle.{msync.specs.declared.chosen.{Residence.TheVariants.{Framed, Slotted}, Spot.{Spot}}, sized_stores.specs.declared.sizes.Size.{Size}}
 
 -- where a page lies there, and there is a slot, it lies in that one
 slot_there : {mode : ℕ} (c : Picture mode) (page : FilePage) (at : Residence) (k : ℕ) → c.place (File page) ≡ place_at at → IsSectorThere at k → IsSectorOfFilePage c page k
@@ -30,7 +30,7 @@ module _ {E : Type 0} (h : Ghosts E) where
   asks_listed c chosen list old new fit spots asks = asks_wider h (IsSectorOfSpots list) (IsSectorListed c chosen) old new (λ k is. listed_sector c chosen list k fit spots is) asks
 
   -- which are those that the msync takes
-  pub asks_taken : {mode : ℕ} (c : Picture mode) (pid addr len : ℕ) (list : List FilePage) (count : ℕ) (old new : E) → AreTaken c pid addr len list (Takes count)
-      → AsksOnly h (IsSectorListed c (chosen_of list count)) old new → AsksOnly h (IsSectorTaken c pid addr len) old new
-  asks_taken c pid addr len list count old new taken asks =
-      asks_wider h (IsSectorListed c (chosen_of list count)) (IsSectorTaken c pid addr len) old new (λ k is. (chosen_page list is.0, taken is.0 is.1, is.2)) asks
+  pub asks_taken : {mode : ℕ} (c : Picture mode) (sizes : List Size) (pid addr len : ℕ) (chosen : Chosen) (old new : E) → AreThoseTaken c sizes pid addr len chosen
+      → AsksOnly h (IsSectorListed c chosen) old new → AsksOnly h (IsSectorTaken c sizes pid addr len) old new
+  asks_taken c sizes pid addr len chosen old new taken asks =
+      asks_wider h (IsSectorListed c chosen) (IsSectorTaken c sizes pid addr len) old new (λ k is. (chosen_page chosen.list is.0, taken.pages.each is.0 is.1, is.2)) asks

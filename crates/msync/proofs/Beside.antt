@@ -1,6 +1,6 @@
 -- What is kept where frames alone change.
 use Rattle.vm_types.specs.declared.mode.Levels as Levels
-use Rattle.msync.proofs.Names.{[], get_or, ap, ◌∙◌, files_of, place_of, is_touched, slots_of, Core, picture_of, attr_where, root_in, KeepsAllButFrames, SameBeside}
+use Rattle.{msync.proofs.Names.{[], get_or, ap, ◌∙◌, place_of, is_touched, slots_of, Core, picture_of, attr_where, root_in, KeepsAllButFrames, SameBeside}, sized_stores.specs.Store.{files_of}}
 
 module _ {M : Type 0} {m : Levels.Ghosts M} {D E : Type 0} where
   pub same_beside : (old new : Core D E M m) → KeepsAllButFrames old new → SameBeside (picture_of old) (picture_of new)

@@ -4,6 +4,8 @@ pub mod Reads
 pub mod Settling
 pub mod Shows
 pub mod Rooms
+pub mod Judging
 pub mod Core
 pub mod Asking
+pub mod Storing
 pub mod SyncEnds

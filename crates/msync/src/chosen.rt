@@ -1,4 +1,4 @@
-//! The file pages that an msync makes durable.
+//! What an msync makes durable: file pages, and the lengths of files.
 use vm_types::{Errno, FilePage, FrameNo, MsyncMode, SlotNo};
 
 /// What an msync is asked for: the `len` bytes of a process from `addr` on.
@@ -17,8 +17,22 @@ pub(crate) enum Ruling {
     Refuses(Errno),
     /// It is done, with nothing to make durable.
     Passes,
-    /// So many pages, at the front of the list, are made durable.
-    Takes(usize),
+    /// So many pages and files, at the front of the lists, are made durable.
+    Takes(Taken),
+}
+
+/// How many pages are taken, and how many files of other lengths, whole.
+#[derive(Clone, Copy)]
+pub(crate) struct Taken {
+    pub pages: usize,
+    pub files: usize,
+}
+
+/// Pages of a process: those from `first` up to, not including, `end`.
+#[derive(Clone, Copy)]
+pub(crate) struct PageRow {
+    pub first: u64,
+    pub end: u64,
 }
 
 /// Where a touched page lies, which isn't at home.

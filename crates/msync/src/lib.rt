@@ -1,5 +1,5 @@
 //! msync: the touched file pages of a range are made durable, all at once and over all files, from the frames and slots that they
-//! lie in, and are touched no more.
+//! lie in, and are touched no more. A file that has got another length is made durable whole with them, its length included.
 #![tactic(auto)]
 
 mod choosing;

@@ -1,7 +1,7 @@
 -- When swap is asked, from the frame that is tried up to the calls that take one.
 use Rattle.vm_types.specs.declared.mode.Levels as Levels
 use Rattle.residency.proofs.{Entries.{entries_kept}, Giving.{frame_given, gives_kept, one_given}, Names.{top_level, FrameNo, FilePage, ◌≡◌, ◌≢◌, ℕ, ◌⊎◌, inl, inr, List, Option, refl, sym, ap, ◌∙◌, subst, arith, Ghosts, AsksOnly, Nothing}}
-use Rattle.residency.proofs.Names.{Names, NamesOnce, asks_none, asks_once, asks_wider, asks_then, once_named, once_none, Store, disk_of, IsSectorOf, ReadsFilePage, Free, Table, role_of, IsFrame, IsFull, SameButFor, Swap, Pages, slots_of}
+use Rattle.residency.proofs.Names.{Names, NamesOnce, asks_none, asks_once, asks_wider, asks_then, once_named, once_none, SizedStore, SizedDirectory, Size, directory_in, directory_of, kept_of, disk_of, IsSectorOf, ReadsSizedPage, Free, Table, role_of, IsFrame, IsFull, SameButFor, Swap, Pages, slots_of}
 use Rattle.residency.{proofs.Names.{IsSectorOfSlot, IsSectorOfFreeSlot, place_of, is_touched, KeepsTrees, data_changed}, specs.{Ages.{GivesFrame, WantsFrame}, Calls.{Frees, NeedsSlot, GivesToSwap, AsksSwap, AsksSwapAlso, AsksOneSlot}}}
 use Rattle.{residency.specs.{Evictions.{IsEvictable, ClearsMarks, Looked, GivesUp}, Parts.{IsFit}, Picture.{entry, Picture, picture_of, is_data}, Reading.{ReadsStore}, declared.kernel.Core.{Core}}, std.proofs.Common.{Result}}
 use Rattle.swap.specs.Slots as Slots
@@ -135,33 +135,38 @@ gives_taken {mode} old found new n fit same free datum root gives =
     gives_kept old found new n same.roles (entries_kept found new 0 fit.rooted trees.entries root) trees.same.forth gives
 
 -- the store was asked for one page, once
-module _ {D : Type 0} (g : Ghosts D) (page : FilePage) (old : Store D) where
-  pub once_store : (mid new : Store D) → mid ≡ old → Names (IsSectorOf mid page) (g.asked (disk_of mid)) (g.asked (disk_of new)) → NamesOnce (IsSectorOf old page) (g.asked (disk_of old)) (g.asked (disk_of new))
+module _ {D : Type 0} (g : Ghosts D) (page : FilePage) (old : SizedStore D) where
+  pub once_store : (mid new : SizedStore D) → mid ≡ old → NamesOnce (IsSectorOf mid page) (g.asked (disk_of mid)) (g.asked (disk_of new)) → NamesOnce (IsSectorOf old page) (g.asked (disk_of old)) (g.asked (disk_of new))
   once_store mid new same names =
-      let P : Store D → Type 0 = λ s. NamesOnce (IsSectorOf s page) (g.asked (disk_of s)) (g.asked (disk_of new)) in
-      subst P same (once_named (IsSectorOf mid page) (IsSectorOf mid page) (g.asked (disk_of mid)) (g.asked (disk_of new)) (λ k is. is) names)
+      let P : SizedStore D → Type 0 = λ s. NamesOnce (IsSectorOf s page) (g.asked (disk_of s)) (g.asked (disk_of new)) in
+      subst P same names
 
-  pub once_unasked : (new : Store D) → new ≡ old → NamesOnce (IsSectorOf old page) (g.asked (disk_of old)) (g.asked (disk_of new))
-  once_unasked new same = once_none (IsSectorOf old page) (g.asked (disk_of old)) (g.asked (disk_of new)) (λ k. ap (λ (s : Store D). g.asked (disk_of s) k) same)
+  pub once_unasked : (new : SizedStore D) → new ≡ old → NamesOnce (IsSectorOf old page) (g.asked (disk_of old)) (g.asked (disk_of new))
+  once_unasked new same = once_none (IsSectorOf old page) (g.asked (disk_of old)) (g.asked (disk_of new)) (λ k. ap (λ (s : SizedStore D). g.asked (disk_of s) k) same)
 
-  pub asks_store : (new : Store D) → NamesOnce (IsSectorOf old page) (g.asked (disk_of old)) (g.asked (disk_of new)) → AsksOnly g (IsSectorOf old page) (disk_of old) (disk_of new)
+  pub asks_store : (new : SizedStore D) → NamesOnce (IsSectorOf old page) (g.asked (disk_of old)) (g.asked (disk_of new)) → AsksOnly g (IsSectorOf old page) (disk_of old) (disk_of new)
   asks_store new once = asks_once g (IsSectorOf old page) (IsSectorOf old page) (disk_of old) (disk_of new) (λ k is. is) once
 
-  -- it was read, or not at all
-  pub reads_store : {T F : Type 0} {to : List ℕ} {r : Result T F} (mid new : Store D) → mid ≡ old → ReadsFilePage g mid new page to r → ReadsStore g old new
-  reads_store mid new same reads =
-      let P : Store D → Type 0 = λ s. ReadsStore g s new in
-      subst P same (record { size = reads.size; kept = reads.kept; failures = reads.cause.later; touches = reads.touches; same = reads.same })
+  -- it has the files that it had,
+  pub same_directory : {T F : Type 0} {to : List ℕ} {r : Result T F} (new : SizedStore D) → ReadsSizedPage g old new page to r → directory_of new ≡ directory_of old
+  same_directory new reads = ap (λ k. directory_in k new.sizes.items) reads.same.0 ∙ ap (λ sizes. directory_in (kept_of old) sizes) reads.same.1
 
-  pub reads_none : (new : Store D) → new ≡ old → ReadsStore g old new
+  -- it was read, or not at all
+  pub reads_store : {T F : Type 0} {to : List ℕ} {r : Result T F} (mid new : SizedStore D) → mid ≡ old → ReadsSizedPage g mid new page to r → ReadsStore g old new
+  reads_store mid new same reads =
+      let P : SizedStore D → Type 0 = λ s. ReadsStore g s new in
+      subst P same (record { size = reads.size; kept = reads.kept; failures = reads.cause.later; touches = reads.touches; same = reads.same.0; sizes = reads.same.1 })
+
+  pub reads_none : (new : SizedStore D) → new ≡ old → ReadsStore g old new
   reads_none new same =
-      let P : Store D → Type 0 = λ s. ReadsStore g old s in
+      let P : SizedStore D → Type 0 = λ s. ReadsStore g old s in
       subst P (sym same) (record {
         size = refl;
         kept = λ k. k;
         failures = omega arith;
         touches = λ k. record { content = λ j. inr refl; unsynced = λ j u. inl u; later = omega arith; moments = λ t c before left. inl left };
         same = refl;
+        sizes = refl;
       })
 
 -- the frame that was wanted, where none was had

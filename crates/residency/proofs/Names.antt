@@ -6,7 +6,8 @@ pub use Rattle.vm_types.specs.{State.{State}, Verdict.{is_past_end}, View.{View}
 pub use Rattle.vm_types.specs.declared.{object.PageKey.TheVariants.{Object, File}, refusal.Stall.{Stall, TheVariants.{SwapDevice, NoFrames, StoreDevice, NoSwap}}, region.{Attr.{Attr}, Backing.{Backing, TheVariants.{Anon, Shared, Common}}}}
 pub use Rattle.{clock_replace.specs.declared.clock.Clock.{Clock}, disk_model.{proofs.{Moments.{asks_once, asks_then, asks_wider, asks_none}, Naming.{once_none, once_named}}, specs.{Moments.{AsksOnly, Nothing}, Stop.{Names, NamesOnce}}}}
 pub use Rattle.{disk_model.specs.declared.sector_disk.SectorDisk.{Ghosts}, file_store.specs.Standing.{IsPageOf, AreBounded}}
-pub use Rattle.stores.specs.{Images.{standing_page}, Store.{ReadsFilePage, IsSectorOf, directory_in, disk_of, files_in, files_of}, declared.store.Store.{Store}}
+pub use Rattle.stores.specs.Images.{standing_page}
+pub use Rattle.sized_stores.specs.{Reading.{ReadsSizedPage}, Store.{IsSectorOf, SizedDirectory, directory_in, directory_of, disk_of, files_in, files_of, kept_of}, declared.{sizes.Size.{Size}, store.SizedStore.{SizedStore}}}
 pub use Rattle.frames.{proofs.FrameLemmas.{with_bytes-others, with_bytes-same}, specs.FrameTable.{IsFull, role_of, SameButFor, IsFrame, count_of, FrameTable, Takes, bytes_of, with_bytes, Releases, frame_count, IsSound, IsCountFor, IsFresh}}
 pub use Rattle.{frames.specs.{FrameTable.{IsHeld}, declared.role.Role.{Role, TheVariants.{Table, Free, Private, Cache, Zero}}}, memory.{proofs.Numbers.{is_number, of_number}, specs.Notes.{NamesFrame}}}
 pub use Rattle.{page_cache.specs.{CacheTable.{place_of, is_touched, SameButForPage, CacheTable}, declared.place.Place.{Place, TheVariants.{Home, Slot, Frame}}}, page_tables.proofs.{Bits.{parked_framed}, Data.{KeepsTrees, data_changed}}}

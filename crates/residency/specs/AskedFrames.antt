@@ -13,7 +13,7 @@ use Rattle.vm_types.specs.declared.refusal.Stall.TheVariants.{StoreDevice}
 use Rattle.disk_model.specs.declared.sector_disk.SectorDisk.{Ghosts}
 use Rattle.disk_model.specs.Moments.{AsksOnly, Nothing}
 use Rattle.disk_model.specs.Stop.{NamesOnce}
-use Rattle.stores.specs.Store.{IsReadyStore, IsSectorOf, disk_of}
+use Rattle.sized_stores.specs.Store.{IsReadySized, IsSectorOf, disk_of}
 use Rattle.frames.specs.FrameTable.{bytes_of, IsFull}
 use Rattle.swap.specs.Slots.{IsReady, IsSectorOfSlot}
 use Rattle.residency.specs.declared.kernel.Core.{Core}
@@ -156,8 +156,8 @@ module _ {M : Type 0} {m : Levels.Ghosts M} {D E : Type 0} (h : Ghosts E) where
 module _ {M : Type 0} {m : Levels.Ghosts M} {D : Type 0} (g : Ghosts D) {E : Type 0} (h : Ghosts E) where
   -- A file page is read from its home into a frame:
   pub record ReadsFromHome (old new : Core D E M m) (page : FilePage) (result : Result FrameNo Stall) : Type 0 where
-    -- it comes in, with the bytes that it has there, as long as the store's device keeps its model,
-    pub read : IfOk result (λ n. IsRead g (disk_of old.store) (disk_of new.store) page (bytes_of new.frames n.0))
+    -- it comes in, as it stands there, with zeros from where its file was cut off, as long as the store's device keeps its model,
+    pub read : IfOk result (λ n. IsRead g old.store new.store page (bytes_of new.frames n.0))
     pub comes : ComesIn old new (File page) result
     pub open comes use *
     pub rest : KeepsBesideFiles old new
@@ -165,7 +165,7 @@ module _ {M : Type 0} {m : Levels.Ghosts M} {D : Type 0} (g : Ghosts D) {E : Typ
     pub clock : TurnsClock old new None result
     pub aged : IsFull old.frames → IfOk result (IsLeftBut old new None)
     -- the store's device is asked for its sectors alone, for each of them once at most, and nothing is written,
-    pub store : IsReadyStore g new.store
+    pub store : IsReadySized g new.store
     pub asks : AsksOnly g (IsSectorOf old.store page) (disk_of old.store) (disk_of new.store)
     pub once : NamesOnce (IsSectorOf old.store page) (g.asked (disk_of old.store)) (g.asked (disk_of new.store))
     pub reads : ReadsStore g old.store new.store

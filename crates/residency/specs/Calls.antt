@@ -8,7 +8,7 @@ use Rattle.vm_types.specs.declared.refusal.Stall.{Stall}
 use Rattle.vm_types.specs.declared.refusal.Stall.TheVariants.{NoFrames, NoSwap, SwapDevice, StoreDevice}
 use Rattle.disk_model.specs.declared.sector_disk.SectorDisk.{Ghosts}
 use Rattle.disk_model.specs.Moments.{AsksOnly, Nothing}
-use Rattle.stores.specs.declared.store.Store.{Store}
+use Rattle.sized_stores.specs.declared.store.SizedStore.{SizedStore}
 use Rattle.frames.specs.declared.role.Role.TheVariants.{Free, Table, Private}
 use Rattle.frames.specs.FrameTable.{FrameTable, frame_count, bytes_of, role_of, count_of, IsFrame, IsFresh, IsFull}
 use Rattle.page_cache.specs.CacheTable.{slot_count}
@@ -39,7 +39,7 @@ module _ {M : Type 0} {m : Levels.Ghosts M} where
 
 module _ {M : Type 0} {m : Levels.Ghosts M} {D E : Type 0} where
   -- Memory is taken of the host:
-  pub record StartsCore {R : Type 0} (files : Store D) (device : Swap E) (frames slots : ℕ) (result : Result (Core D E M m) (R × Store D)) : Type 0 where
+  pub record StartsCore {R : Type 0} (files : SizedStore D) (device : Swap E) (frames slots : ℕ) (result : Result (Core D E M m) (R × SizedStore D)) : Type 0 where
     -- it is fit and as at the start, over that store and those slots,
     pub fit : IfOk result (λ core. IsFit (picture_of core))
     pub start : IfOk result (λ core. IsStart core frames slots)

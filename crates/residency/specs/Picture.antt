@@ -8,7 +8,7 @@ use Rattle.vm_types.specs.declared.number.FrameNo.{FrameNo}
 use Rattle.vm_types.specs.declared.region.Attr.{Attr}
 use Rattle.vm_types.specs.Files.{Files}
 use Rattle.vm_types.specs.View.{View}
-use Rattle.stores.specs.Store.{files_of}
+use Rattle.sized_stores.specs.Store.{files_of}
 use Rattle.frames.specs.declared.role.Role.{Role}
 use Rattle.frames.specs.declared.role.Role.TheVariants.{Free, Zero, Table, Private, Cache}
 use Rattle.frames.specs.FrameTable.{FrameTable, bytes_of, role_of, count_of}

@@ -5,7 +5,7 @@ use Rattle.vm_types.specs.declared.refusal.Stall.{Stall}
 use Rattle.vm_types.specs.declared.refusal.Stall.TheVariants.{NoFrames, NoSwap, SwapDevice, StoreDevice}
 use Rattle.disk_model.specs.declared.sector_disk.SectorDisk.{Ghosts}
 use Rattle.residency.specs.declared.kernel.Core.{Core}
-use Rattle.stores.specs.Store.{disk_of}
+use Rattle.sized_stores.specs.Store.{disk_of}
 
 module _ {M : Type 0} {m : Levels.Ghosts M} {E : Type 0} (h : Ghosts E) where
   module _ {D : Type 0} where

@@ -1,7 +1,7 @@
 //! The values under all calls.
 ghost use Rattle.std.specs.Prelude.{◌≡◌, ◌≤◌, ◌<◌, IfOk, IfErr, length};
 ghost use Rattle.file_store.specs.Standing.{AreBounded};
-ghost use Rattle.stores.specs.Store.{files_of};
+ghost use Rattle.sized_stores.specs.Store.{files_of};
 ghost use Rattle.frames.specs.FrameTable.{IsSound, frame_count};
 ghost use Rattle.page_cache.specs.CacheTable as CacheTable;
 ghost use Rattle.swap.specs.Slots.{slots_of};
@@ -13,8 +13,8 @@ use disk_model::Count;
 use memory::Memory;
 use page_cache::PageCache;
 use regions::Regions;
+use sized_stores::SizedStore;
 use std::alloc::{AllocError, Global};
-use stores::Store;
 use swap::Swap;
 use vm_types::{FrameNo, Levels, PROCESSES};
 
@@ -26,8 +26,8 @@ pub const PLACES: usize = PROCESSES + 1;
 /// on its way.
 #[derive(Drop)]
 pub struct Core<D, E, M: Levels> {
-    /// The files, as they stand on their device.
-    pub store: Store<D>,
+    /// The files, with the lengths that they have now.
+    pub store: SizedStore<D>,
     /// The slots that pages are swapped to.
     pub swap: Swap<E>,
     /// Physical memory, with its buffer of translations.
@@ -67,14 +67,14 @@ impl<D, E, M: Levels> Core<D, E, M> {
     /// 65,536. There is no process, and every file page is at home. No later call takes memory of the host.
     ///
     /// # Errors
-    /// `AllocError` where the host has not enough memory. The files are handed back.
+    /// `AllocError` where the host has not enough memory. The store is handed back.
     pub fn new(
         alloc: Global,
-        store: Store<D>,
+        store: SizedStore<D>,
         swap: Swap<E>,
         frames: u32,
         slots: u32,
-    ) -> Result<Core<D, E, M>, (AllocError, Store<D>)>
+    ) -> Result<Core<D, E, M>, (AllocError, SizedStore<D>)>
     where
         E: Drop,
         requires swap { Slots.AreNewSlots (slots_of swap) slots }

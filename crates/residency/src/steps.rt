@@ -3,7 +3,7 @@ ghost use Rattle.std.specs.Prelude.{◌≡◌, true};
 ghost use Rattle.vm_types.specs.declared.object.PageKey.TheVariants.{File, Object};
 ghost use Rattle.vm_types.specs.Objects.{is_named};
 ghost use Rattle.file_store.specs.Standing.{IsPageOf};
-ghost use Rattle.stores.specs.Store.{IsReadyStore};
+ghost use Rattle.sized_stores.specs.Store.{IsReadySized};
 ghost use Rattle.page_cache.specs.declared.place.Place.TheVariants.{Home, Slot};
 ghost use Rattle.swap.specs.Slots.{IsReady};
 ghost use Rattle.residency.specs.Picture.{picture_of};
@@ -106,14 +106,15 @@ impl<D, E: SectorDisk, M: Levels> Core<D, E, M> {
 }
 
 impl<D: SectorDisk, E: SectorDisk, M: Levels> Core<D, E, M> {
-    /// Reads a file page, which begins inside its file and lies at home, into a free frame: it lies there afterwards.
+    /// Reads a file page, which begins inside its file and lies at home, into a free frame, with zeros from where its file was cut
+    /// off: it lies there afterwards.
     ///
     /// # Errors
     /// As `obtain`, and then the store isn't read; `StoreDevice` exactly where the store's device failed. The page stays at home
     /// then, and no frame is taken.
     pub fn bring_in(&mut self, page: FilePage) -> Result<FrameNo, Stall>
         requires fit { IsFit (picture_of self.old) }
-        requires store { IsReadyStore D.SectorDisk self.old.store }
+        requires store { IsReadySized D.SectorDisk self.old.store }
         requires swap { IsReady E.SectorDisk self.old.swap }
         requires inside { IsPageOf (picture_of self.old).files page.file page.page }
         requires home { (picture_of self.old).place (File page) ≡ Home }

@@ -4,13 +4,13 @@ ghost use Rattle.machine.specs.Machine.{IsSoundMachine};
 ghost use Rattle.runner.specs.Session.{Answers};
 ghost use Rattle.trace_lang.specs.Texts.{bad_line_text};
 
-use disk_model::SectorDisk;
+use disk_model::{SectorDisk, WriteZeros};
 use machine::Machine;
 use trace_lang::{answer_text, bad_line_text, history_text, parse_line};
 
 /// Runs one line of a trace, without its newline, as `run` does each, and writes its reply to the front of `text`, newline included: the text of the
 /// reply to the command that the line stands for, or `bad line` where it stands for none. Returns how many bytes that is, at most 1,024.
-pub fn answer_line<D: SectorDisk, E: SectorDisk>(
+pub fn answer_line<D: WriteZeros, E: SectorDisk>(
     line: &[u8],
     machine: &mut Machine<D, E>,
     text: &mut [u8; 1024],

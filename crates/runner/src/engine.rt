@@ -11,7 +11,7 @@ ghost use Rattle.runner.specs.Trace.{streams, CausedTrace, RunsTrace};
 
 use crate::line_buffer::LineBuffer;
 use crate::output_buffer::{OutputBuffer, WriteFault};
-use disk_model::SectorDisk;
+use disk_model::{SectorDisk, WriteZeros};
 use machine::Machine;
 use memchr::memchr;
 use std::io::{ErrorKind, Read, Write};
@@ -47,7 +47,7 @@ fn answer_history<D: SectorDisk, E: SectorDisk>(output: &mut OutputBuffer, machi
 }
 
 // Runs one line and adds its reply's text to the output.
-fn answer<D: SectorDisk, E: SectorDisk>(
+fn answer<D: WriteZeros, E: SectorDisk>(
     line: &[u8],
     output: &mut OutputBuffer,
     machine: &mut Machine<D, E>,
@@ -65,7 +65,7 @@ fn answer<D: SectorDisk, E: SectorDisk>(
 }
 
 // Runs the line that a newline has ended, and writes the output out where it is full.
-fn end_line<W: Write, D: SectorDisk, E: SectorDisk>(
+fn end_line<W: Write, D: WriteZeros, E: SectorDisk>(
     line: &[u8],
     output: &mut OutputBuffer,
     writer: &mut W,
@@ -93,7 +93,7 @@ fn newline_in(bytes: &[u8]) -> Option<usize>
 
 // Goes on by bytes that end the open line, and by the newline after them. A line that stands whole in them is run where it
 // stands.
-fn run_line<W: Write, D: SectorDisk, E: SectorDisk>(
+fn run_line<W: Write, D: WriteZeros, E: SectorDisk>(
     bytes: &[u8],
     line: &mut LineBuffer,
     output: &mut OutputBuffer,
@@ -115,7 +115,7 @@ fn run_line<W: Write, D: SectorDisk, E: SectorDisk>(
 }
 
 // Goes on by a piece of the trace.
-fn run_piece<W: Write, D: SectorDisk, E: SectorDisk>(
+fn run_piece<W: Write, D: WriteZeros, E: SectorDisk>(
     piece: &[u8],
     line: &mut LineBuffer,
     output: &mut OutputBuffer,
@@ -139,7 +139,7 @@ fn run_piece<W: Write, D: SectorDisk, E: SectorDisk>(
 }
 
 // Goes on by a piece and gives the replies to the writer.
-fn take_piece<W: Write, D: SectorDisk, E: SectorDisk>(
+fn take_piece<W: Write, D: WriteZeros, E: SectorDisk>(
     piece: &[u8],
     line: &mut LineBuffer,
     output: &mut OutputBuffer,
@@ -159,7 +159,7 @@ fn take_piece<W: Write, D: SectorDisk, E: SectorDisk>(
 }
 
 // Runs the last line where no newline ended it.
-fn answer_last<D: SectorDisk, E: SectorDisk>(
+fn answer_last<D: WriteZeros, E: SectorDisk>(
     line: &LineBuffer,
     output: &mut OutputBuffer,
     machine: &mut Machine<D, E>,
@@ -174,7 +174,7 @@ fn answer_last<D: SectorDisk, E: SectorDisk>(
 }
 
 // The reader is at its end: runs the last line and gives the replies to the writer.
-fn finish<W: Write, D: SectorDisk, E: SectorDisk>(
+fn finish<W: Write, D: WriteZeros, E: SectorDisk>(
     line: &LineBuffer,
     output: &mut OutputBuffer,
     writer: &mut W,
@@ -223,7 +223,7 @@ struct Input {
 }
 
 // One read, and what its bytes ask for. `None`: the run goes on.
-fn turn<R: Read, W: Write, D: SectorDisk, E: SectorDisk>(
+fn turn<R: Read, W: Write, D: WriteZeros, E: SectorDisk>(
     reader: &mut R,
     input: &mut Input,
     output: &mut OutputBuffer,
@@ -247,7 +247,7 @@ fn turn<R: Read, W: Write, D: SectorDisk, E: SectorDisk>(
 }
 
 // The turns of a run, with the words that each turn keeps.
-fn run_turns<R: Read, W: Write, D: SectorDisk, E: SectorDisk>(
+fn run_turns<R: Read, W: Write, D: WriteZeros, E: SectorDisk>(
     reader: &mut R,
     writer: &mut W,
     machine: &mut Machine<D, E>,
@@ -286,7 +286,7 @@ fn run_turns<R: Read, W: Write, D: SectorDisk, E: SectorDisk>(
 /// carried out, or a frame was refused.
 ///
 /// Where a reader or a writer does not say which bytes it has, as a file or a terminal, the contract claims nothing of these.
-pub fn run<R: Read, W: Write, D: SectorDisk, E: SectorDisk>(
+pub fn run<R: Read, W: Write, D: WriteZeros, E: SectorDisk>(
     reader: &mut R,
     writer: &mut W,
     machine: &mut Machine<D, E>,

@@ -6,7 +6,7 @@ ghost use Rattle.runner.specs.Starting.{RunsOn};
 ghost use Rattle.runner.specs.Trace.{streams};
 
 use crate::engine::{RunEnd, run};
-use disk_model::SectorDisk;
+use disk_model::{SectorDisk, WriteZeros};
 use machine::{BootFault, Config, Machine};
 use std::alloc::Global;
 use std::io::{Read, Write};
@@ -24,7 +24,7 @@ pub struct Devices<D, E> {
 /// Where the machine does not start, nothing was read or written, and the store device is handed back with the fault:
 /// `Frames`, `Slots`, `BadLayout` and `BadJournal` exactly where the sizes or the image are so, in this order, unless another
 /// fault comes first; `Device` exactly where the store device failed; `OutOfMemory` for want of memory (`Machine::boot`).
-pub fn run_on<R: Read, W: Write, D: SectorDisk, E: SectorDisk + Drop>(
+pub fn run_on<R: Read, W: Write, D: WriteZeros, E: SectorDisk + Drop>(
     alloc: Global,
     config: Config,
     devices: Devices<D, E>,

@@ -4,7 +4,7 @@ use Rattle.std.specs.Option.{option_and_then, option_map}
 use Rattle.byteorder.specs.Endian.{little_number}
 use Rattle.vm_types.specs.Permission.{with_bits}
 use Rattle.vm_types.specs.declared.command.Command.{Command}
-use Rattle.vm_types.specs.declared.command.Command.TheVariants.{Spawn, Fork, Exit, Mmap, Munmap, Mprotect, Dontneed, Msync, Load, Fetch}
+use Rattle.vm_types.specs.declared.command.Command.TheVariants.{Spawn, Fork, Exit, Mmap, Munmap, Mprotect, Dontneed, Msync, Truncate, Load, Fetch}
 use Rattle.vm_types.specs.declared.command.MapSource.{MapSource}
 use Rattle.vm_types.specs.declared.command.MapSource.TheVariants.{Anon, Common, Private, Shared}
 use Rattle.vm_types.specs.declared.command.MsyncMode.{MsyncMode}
@@ -83,7 +83,8 @@ command_of n =
     else (if n.kind == 8 then sync_of n Async
     else (if n.kind == 9 then load_of n
     else (if n.kind == 10 then Some (Fetch n.pid n.addr)
-    else None))))))))))
+    else (if n.kind == 12 then Some (Truncate n.value n.len)
+    else None)))))))))))
 
 -- what is asked for: a command, or, by the kind 11, that a page may be stored to
 abbrev pub request_of : RequestNumbers → Option Request

@@ -16,7 +16,7 @@ pub struct RequestNumbers {
     pub pid: u64,
     /// An address of its.
     pub addr: u64,
-    /// Bytes of a range, or of an access.
+    /// Bytes of a range, of an access, or that a file is to have.
     pub len: u64,
     /// A permission: 1 to read, 2 to write, 4 to run, added up.
     pub prot: u64,

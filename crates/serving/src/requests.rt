@@ -137,6 +137,10 @@ impl RequestNumbers {
             8 => self.sync(MsyncMode::Async),
             9 => self.load(),
             10 => Some(Command::Fetch { pid, addr }),
+            12 => Some(Command::Truncate {
+                file: self.value,
+                length: len,
+            }),
             _ => None,
         }
     }

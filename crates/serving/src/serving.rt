@@ -10,7 +10,7 @@ use crate::numbers::{REQUEST_BYTES, RequestNumbers};
 use crate::reading::read_request;
 use crate::requests::Request;
 use crate::responses::Response;
-use disk_model::SectorDisk;
+use disk_model::{SectorDisk, WriteZeros};
 use inspection::root_step;
 use machine::Machine;
 use runner::RunEnd;
@@ -22,7 +22,7 @@ use vm_types::{Answer, Command, Pid, StoredValue, USER_START, Width};
 /// - `Done`: the reader is at its end. Each whole request was served; less than one that came after them was read, and nothing done of it.
 /// - `ReadFault`: the reader failed, or it was called, or a request served, 2^64 - 1 times. The whole requests read before were served.
 /// - `WriteFault`: the writer failed. All requests that were read were carried out, and the last one's reply was not written whole.
-pub fn serve<D: SectorDisk, E: SectorDisk, R: Read, W: Write>(
+pub fn serve<D: WriteZeros, E: SectorDisk, R: Read, W: Write>(
     machine: &mut Machine<D, E>,
     reader: &mut R,
     writer: &mut W,
@@ -42,7 +42,7 @@ pub fn serve<D: SectorDisk, E: SectorDisk, R: Read, W: Write>(
 }
 
 /// Reads a request, carries it out, and writes what the kernel is told. `None`: it did.
-fn serve_one<D: SectorDisk, E: SectorDisk, R: Read, W: Write>(
+fn serve_one<D: WriteZeros, E: SectorDisk, R: Read, W: Write>(
     machine: &mut Machine<D, E>,
     reader: &mut R,
     writer: &mut W,
@@ -66,7 +66,7 @@ fn serve_one<D: SectorDisk, E: SectorDisk, R: Read, W: Write>(
 }
 
 /// Carries out the request of these bytes, and returns what the kernel is told.
-pub fn respond<D: SectorDisk, E: SectorDisk>(
+pub fn respond<D: WriteZeros, E: SectorDisk>(
     machine: &mut Machine<D, E>,
     bytes: &[u8; REQUEST_BYTES],
 ) -> Response
@@ -85,7 +85,7 @@ pub fn respond<D: SectorDisk, E: SectorDisk>(
 }
 
 /// Carries out a request, and returns what the machine answers.
-fn answer<D: SectorDisk, E: SectorDisk>(
+fn answer<D: WriteZeros, E: SectorDisk>(
     machine: &mut Machine<D, E>,
     request: Request,
 ) -> Option<Answer>
@@ -100,7 +100,7 @@ fn answer<D: SectorDisk, E: SectorDisk>(
 }
 
 /// Carries out a command.
-fn carry_out<D: SectorDisk, E: SectorDisk>(
+fn carry_out<D: WriteZeros, E: SectorDisk>(
     machine: &mut Machine<D, E>,
     command: Command,
 ) -> Option<Answer>
@@ -113,7 +113,7 @@ fn carry_out<D: SectorDisk, E: SectorDisk>(
 
 /// Loads the byte at an address, and stores it as it is: so nothing that anybody sees changes, and the page may be stored to from then on.
 /// Returns the answer to the store, or to the load where it gave no byte.
-fn touch<D: SectorDisk, E: SectorDisk>(
+fn touch<D: WriteZeros, E: SectorDisk>(
     machine: &mut Machine<D, E>,
     pid: u64,
     addr: u64,

@@ -1,12 +1,12 @@
 -- What an access asks for.
 use Rattle.vm_types.specs.declared.mode.Levels as Levels
-use Rattle.spaces.proofs.Names.{ℕ, ◌≡◌, ◌≢◌, ◌⊎◌, ◌/◌, true, false, Some, is_some, List, Result, Ok, Err, inl, refl, sym, ap, ◌∙◌, subst, rules, AsksOnly, Ghosts, AnyStore, Swap, IsSoundCore, tends_none, AccessRefusal, Reaches, Tends}
+use Rattle.spaces.proofs.Names.{ℕ, ◌≡◌, ◌≢◌, ◌⊎◌, ◌/◌, true, false, Some, is_some, List, Result, Ok, Err, inl, refl, sym, ap, ◌∙◌, subst, rules, AsksOnly, Ghosts, AnyStore, Swap, IsSoundCore, File, tends_none, AccessRefusal, Reaches, Tends}
 use Rattle.spaces.proofs.Names.{IsRefusal, ReadsHome, RefusesAccess, ShowsFile, KeepsSlotted, IsThatPage, bytes_of, with_bytes, Core, KeepsAround, Picture, picture_of, is_live, Access, StoredValue, Phys, ESRCH, Stall, StoreDevice, Reply}
 use Rattle.spaces.{proofs.{Names.{Done, Faulted, Refused, Stalled, Width, with_number, reply_of, byte_count}, Refusals.{no_stall, same_stall, refused_idle, refused_caused}}, specs.Accesses.{reply_for, AsksFor, KeepsToPage, LetsThrough, MayWrite}}
-use Rattle.{spaces.{proofs.Room.{room_left}, specs.{Accesses.{WritesNumber}, Idle.{is_denial}}}, vm_types.specs.declared.access.Access.TheVariants.{Store}}
+use Rattle.{spaces.{proofs.Room.{sound_read}, specs.{Accesses.{WritesNumber}, Idle.{is_denial}}}, vm_types.specs.declared.access.Access.TheVariants.{Store}}
 use Rattle.{disk_model.specs.Stop.{NamesOnce}, fault.specs.{AccessAsking.{IsSectorShown}, Chances.{AreAllMarkedFor, GivesOthersChance, WantsOneFrame}}}
 use Rattle.fault.specs.declared.refusal.AccessRefusal.TheVariants as Refusal
-use Rattle.stores.specs.Store.{disk_of, kept_of, HasRoom}
+use Rattle.sized_stores.specs.Store.{disk_of}
 
 -- nothing was written
 pub writes_none : {M : Type 0} {m : Levels.Ghosts M} → {D E : Type 0} (access : Access) (c : Core D E M m) → MayWrite access c c
@@ -70,11 +70,11 @@ module _ {M : Type 0} {m : Levels.Ghosts M} {D E : Type 0} (g : Ghosts D) (h : G
 module _ {M : Type 0} {m : Levels.Ghosts M} {D E : Type 0} (g : Ghosts D) (h : Ghosts E) where
   -- where there is no place
   pub keeps_refused : (old new : Core D E M m) (pid addr : ℕ) (width : Width) (access : Access) (r : Result Phys AccessRefusal) (refusal : AccessRefusal)
-      → Reaches g h old new pid addr width access r → IsRefusal g h old new pid addr width access refusal → HasRoom (kept_of old.store)
+      → Reaches g h old new pid addr width access r → IsRefusal g h old new pid addr width access refusal → IsSoundCore g h old
       → KeepsToPage g h old new pid addr access (reply_of (reply_for refusal))
-  keeps_refused old new pid addr width access r refusal reached is had =
+  keeps_refused old new pid addr width access r refusal reached is was =
       let goes = reached.proceeds in
-      let left = room_left old.store new.store goes.reads.same had in
+      let sound = sound_read old new g h goes.reads goes.ready goes.swap goes.fit (λ p. reached.tends.touches (File p)) was in
       let idle = refused_idle g h old new pid addr width access refusal is in
       let caused = refused_caused g h old new pid addr width access refusal goes.reads.failures goes.device.later is in
       let asks = asks_refused g h old new pid addr access reached.tends width refusal is in

@@ -3,6 +3,7 @@ pub mod Asking
 pub mod Calls
 pub mod Checks
 pub mod Guards
+pub mod Lengths
 pub mod Living
 pub mod Mapped
 pub mod NewObject
@@ -18,6 +19,7 @@ pub mod Room
 pub mod Short
 pub mod Shown
 pub mod Taking
+pub mod Truncates
 pub mod Uncopied
 pub mod Unmapped
 pub mod Writing

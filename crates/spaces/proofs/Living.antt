@@ -3,11 +3,11 @@ use Rattle.vm_types.specs.declared.mode.Levels as Levels
 use Rattle.spaces.proofs.Names.{user_end, Command, Spawn, Fork, Exit, EAGAIN, Stall, SwapDevice, StoreDevice, Process, Done, Refused, Stalled, Maps, named_objects, least_free_from, least_free_pid, with_process}
 use Rattle.spaces.proofs.Names.{without_process, without_space, table_count, tables_of, is_success, is_open_to, cause_of, needs_frames, reads_swap, State, Outcome, outcome, spawn_outcome, fork_outcome, exit_outcome, View, ℕ, ◌≡◌, ◌≢◌, ◌+◌}
 use Rattle.spaces.proofs.Names.{◌≤◌, ◌==◌, ◌&&◌, ◌||◌, not, Bool, true, false, if◌then◌else◌, Option, Some, None, refl, sym, ap, ◌∙◌, subst, arith, rules, nat_tests}
-use Rattle.spaces.proofs.Names.{Ghosts, Result, AnyStore, IsReadyStore, IsSoundCore, frame_count, AddsProcess, RemovesProcess, KeepsProcesses}
+use Rattle.spaces.proofs.Names.{Ghosts, Result, AnyStore, File, IsSoundCore, frame_count, AddsProcess, RemovesProcess, KeepsProcesses}
 use Rattle.spaces.proofs.Names.{IsShortToFork, KeepsRoom, StallCause, ReadCause, IsShort, IsFit, Core, Picture, picture_of, is_live, view, ShowsPages, KeepsFiles, shows_named, KeepsNamed, without_maps, slots_of}
-use Rattle.{lifecycle.specs.Lifetimes.{WantsProcess}, spaces.specs.Calls.{Comes, Stalls, FallsShort, IsCaused, LeavesStore, causes}}
-use Rattle.spaces.proofs.{Calls.{does, does_answer, shows_with, pages_of}, Pages.{views_seen, maps_gone}, Refusals.{stall_caused}, Room.{room_left}, Short.{falls_short, falls_short_to_fork, least_below, tables_added}}
-use Rattle.stores.specs.Store.{disk_of, kept_of}
+use Rattle.{lifecycle.specs.Lifetimes.{WantsProcess}, spaces.specs.Calls.{Comes, Stalls, FallsShort, LeavesStore, causes}}
+use Rattle.spaces.proofs.{Calls.{does, does_answer, shows_with, pages_of}, Pages.{views_seen, maps_gone}, Refusals.{stall_caused}, Room.{sound_beside}, Short.{falls_short, falls_short_to_fork, least_below, tables_added}}
+use Rattle.sized_stores.specs.Store.{disk_of}
 
 -- a test of all numbers, where one is decided
 lives_with : (pid q : ℕ) (b : Bool) (seen : ℕ → Bool) → seen pid ≡ true → (q ≢ pid → b ≡ seen q) → (q == pid || b) ≡ seen q
@@ -51,10 +51,10 @@ module _ {mode : ℕ} (old new : Picture mode) (s : State) (shows : ShowsPages o
       (λ ne. shows.views q page ∙ sym (removes.others q page ne))))
 
 -- why a process didn't come
-cause_is : {M : Type 0} {m : Levels.Ghosts M} → {D E : Type 0} (g : Ghosts D) (h : Ghosts E) (old new : Core D E M m) (stall : Stall) → StallCause h old new stall → cause_of (causes g h old new) stall
-cause_is g h old new SwapDevice cause = cause.1
-cause_is g h old new StoreDevice cause = absurd cause
-cause_is g h old new stall cause = cause.0
+cause_is : {M : Type 0} {m : Levels.Ghosts M} → {D E : Type 0} (g : Ghosts D) (h : Ghosts E) (old new : Core D E M m) (command : Command) (stall : Stall) → StallCause h old new stall → cause_of (causes g h old new command) stall
+cause_is g h old new command SwapDevice cause = cause.1
+cause_is g h old new command StoreDevice cause = absurd cause
+cause_is g h old new command stall cause = cause.0
 
 open_to : {M : Type 0} {m : Levels.Ghosts M} (s : State) (command : Command) (stall : Stall) {D E : Type 0} (h : Ghosts E) (old new : Core D E M m) → StallCause h old new stall → needs_frames command ≡ true → reads_swap s command ≡ true
     → is_open_to s command stall ≡ true
@@ -68,7 +68,7 @@ stalled : {M : Type 0} {m : Levels.Ghosts M} → {D E : Type 0} (g : Ghosts D) (
     → FallsShort (frame_count new.frames) (slots_of new.swap).total s command stall
     → ShowsPages (picture_of new) s → Comes g h old new s command (Stalled stall)
 stalled g h old new s command stall o cause e fine frames swaps short shows =
-    Stalls stall (record { otherwise = ap (λ (p : Outcome). is_success p.reply) e ∙ fine; open_to = open_to s command stall h old new cause frames swaps; cause = cause_is g h old new stall cause })
+    Stalls stall (record { otherwise = ap (λ (p : Outcome). is_success p.reply) e ∙ fine; open_to = open_to s command stall h old new cause frames swaps; cause = cause_is g h old new command stall cause })
     short refl shows
 
 -- the stall says of the store's device that it was left alone
@@ -76,33 +76,38 @@ stall_read : {M : Type 0} {m : Levels.Ghosts M} → {D E : Type 0} (g : Ghosts D
 stall_read g h old new StoreDevice same cause = absurd cause
 stall_read g h old new stall same cause = (cause.0, ap (λ (t : AnyStore _). g.failures (disk_of t)) same, cause.1)
 
--- so it is told what the stall came from
-pub store_kept_caused : {M : Type 0} {m : Levels.Ghosts M} → {D E : Type 0} (g : Ghosts D) (h : Ghosts E) (old new : Core D E M m) (stall : Stall) → new.store ≡ old.store
-    → h.failures old.swap.pages.disk ≤ h.failures new.swap.pages.disk → StallCause h old new stall → IsCaused g h old new (Stalled stall)
-store_kept_caused g h old new stall same later cause =
-    let still : g.failures (disk_of new.store) ≡ g.failures (disk_of old.store) = ap (λ (t : AnyStore _). g.failures (disk_of t)) same in
-    stall_caused g h old new stall (omega (arith, still)) later (stall_read g h old new stall same cause)
+module _ {M : Type 0} {m : Levels.Ghosts M} {D E : Type 0} (g : Ghosts D) (h : Ghosts E) (old new : Core D E M m) {T : Type 0} (r : Result T Stall) (sound : IsSoundCore g h old) (keeps : WantsProcess h old new r) where
+  still : g.failures (disk_of new.store) ≡ g.failures (disk_of old.store)
+  still = ap (λ (t : AnyStore D). g.failures (disk_of t)) keeps.store
 
--- a process came, and nothing failed
-pub came : {M : Type 0} {m : Levels.Ghosts M} → {D E : Type 0} (g : Ghosts D) (h : Ghosts E) (old new : Core D E M m) (pid : ℕ) → {T : Type 0} (r : Result T Stall) → IsSoundCore g h old → WantsProcess h old new r
-    → (new.refused.number ≡ old.refused.number) × (h.failures new.swap.pages.disk ≡ h.failures old.swap.pages.disk) → LeavesStore g h old new (Process pid)
-came g h old new pid r sound keeps none =
-    let still : g.failures (disk_of new.store) ≡ g.failures (disk_of old.store) = ap (λ (t : AnyStore _). g.failures (disk_of t)) keeps.store in
-    record {
-      accounts = record {
-        sound = record {
-          ready = subst (λ (t : AnyStore _). IsReadyStore g t) (sym keeps.store) sound.ready;
-          room = room_left old.store new.store (ap (λ (t : AnyStore _). kept_of t) keeps.store) sound.room;
-          swap = keeps.swap;
-          fit = keeps.fit;
-        };
-        room = keeps.room;
-        denied = search rules;
-        caused = record { later = omega (arith, still); swap_later = keeps.device.later; calm = λ e. still; swap_calm = λ e. none.1; counted = omega (arith, none.0); failed = search rules; stalled = search rules };
-      };
-      store = keeps.store;
-      device = keeps.device;
-    }
+  goes_on : IsSoundCore g h new
+  goes_on = sound_beside old new g h keeps.store keeps.swap keeps.fit (λ p touched. keeps.files.touched (File p) ∙ touched) sound
+
+  -- a process came, and nothing failed
+  pub came : (pid : ℕ) → (new.refused.number ≡ old.refused.number) × (h.failures new.swap.pages.disk ≡ h.failures old.swap.pages.disk) → LeavesStore g h old new (Process pid)
+  came pid none = record {
+    accounts = record {
+      sound = goes_on;
+      room = keeps.room;
+      denied = search rules;
+      caused = record { later = omega (arith, still); swap_later = keeps.device.later; calm = λ e. still; swap_calm = λ e. none.1; counted = omega (arith, none.0); failed = search rules; stalled = search rules };
+    };
+    store = keeps.store;
+    device = keeps.device;
+  }
+
+  -- none came, and it is told what the stall came from
+  pub stayed : (stall : Stall) → StallCause h old new stall → LeavesStore g h old new (Stalled stall)
+  stayed stall cause = record {
+    accounts = record {
+      sound = goes_on;
+      room = keeps.room;
+      denied = search rules;
+      caused = stall_caused g h old new stall (omega (arith, still)) keeps.device.later (stall_read g h old new stall keeps.store cause);
+    };
+    store = keeps.store;
+    device = keeps.device;
+  }
 
 module _ {M : Type 0} {m : Levels.Ghosts M} {D E : Type 0} (g : Ghosts D) (h : Ghosts E) (old : Core D E M m) (s : State) (shows : ShowsPages (picture_of old) s) (number : Option ℕ)
     (is : number ≡ least_free_from (is_live (picture_of old)) 1 64) where

@@ -7,7 +7,7 @@ use Rattle.spaces.proofs.Names.{cause_of, needs_frames, reads_files, reads_swap,
 use Rattle.spaces.{specs.{Accesses.{reply_for, CarriesRead}, Calls.{Comes, Stalls, causes}}, proofs.{Calls.{does, does_answer}, Short.{falls_short}, Shown.{judged_is, homes}}}
 use Rattle.fault.specs.declared.refusal.AccessRefusal.TheVariants as Refusal
 use Rattle.vm_types.specs.declared.access.Access.TheVariants as Accesses
-use Rattle.stores.specs.Store.{disk_of}
+use Rattle.sized_stores.specs.Store.{disk_of}
 
 -- the frame of a load or a fetch is one of memory's
 pub open_read : {mode : ℕ} (kind : Access) (c : Picture mode) (pid page : ℕ) (b : Backing) (n : ℕ) → is_store kind ≡ false → IsFrameFor kind c pid page b n → IsFrame c.frames n
@@ -17,6 +17,25 @@ open_read kind c pid page b n e usable = usable
 pub live_outcome : {mode : ℕ} (c : Picture mode) (s : State) (pid : ℕ) (a b : Outcome) → ShowsPages c s → is_live c pid ≡ true → (if s.live pid then a else b) ≡ a
 live_outcome c s pid a b shows live = let e : s.live pid ≡ true = shows.live pid ∙ live in rw e refl
 
+-- a stall of a command that may read both devices, and which would otherwise make no table
+module _ {M : Type 0} {m : Levels.Ghosts M} {D E : Type 0} (g : Ghosts D) (h : Ghosts E) (old new : Core D E M m) (s : State) (command : Command)
+    (frames : needs_frames command ≡ true) (files : reads_files command ≡ true) (swaps : reads_swap s command ≡ true) (fit : IsFit (picture_of new)) where
+  open_to : (stall : Stall) → is_open_to s command stall ≡ true
+  open_to SwapDevice = swaps
+  open_to StoreDevice = files
+  open_to stall = frames
+
+  cause_is : (stall : Stall) → ReadCause g h old new stall → cause_of (causes g h old new command) stall
+  cause_is SwapDevice cause = cause.2
+  cause_is StoreDevice cause = cause.1
+  cause_is stall cause = cause.0
+
+  pub stalls_read : is_success (outcome s command).reply ≡ true → table_count (outcome s command).state ≡ table_count s → (stall : Stall) → ReadCause g h old new stall
+      → IsShort (picture_of new) stall → ShowsPages (picture_of new) s → Comes g h old new s command (Stalled stall)
+  stalls_read fine tables stall cause short shows =
+      Stalls stall (record { otherwise = fine; open_to = open_to stall; cause = cause_is stall cause })
+      (falls_short (picture_of new) s command fit shows stall short (omega (arith, tables))) refl shows
+
 -- an access without a place: what the flat model says of it decides
 module _ {M : Type 0} {m : Levels.Ghosts M} {D E : Type 0} (g : Ghosts D) (h : Ghosts E) (old new : Core D E M m) (s : State) (pid addr : ℕ) (width : Width) (kind : Access) (command : Command)
     (fine : (v : View) → verdict_of (picture_of old) pid addr width kind ≡ Fine v → is_success (outcome s command).reply ≡ true)
@@ -24,21 +43,9 @@ module _ {M : Type 0} {m : Levels.Ghosts M} {D E : Type 0} (g : Ghosts D) (h : G
     (faults : (code : Code) → verdict_of (picture_of old) pid addr width kind ≡ Faults code → outcome s command ≡ answers s (Faulted (fault_of kind code addr)))
     (frames : needs_frames command ≡ true) (files : reads_files command ≡ true) (swaps : reads_swap s command ≡ true)
     (fit : IsFit (picture_of new)) where
-  open_to : (stall : Stall) → is_open_to s command stall ≡ true
-  open_to SwapDevice = swaps
-  open_to StoreDevice = files
-  open_to stall = frames
-
-  cause_is : (stall : Stall) → ReadCause g h old new stall → cause_of (causes g h old new) stall
-  cause_is SwapDevice cause = cause.2
-  cause_is StoreDevice cause = cause.1
-  cause_is stall cause = cause.0
-
   stalls : (stall : Stall) (v : View) → verdict_of (picture_of old) pid addr width kind ≡ Fine v → ReadCause g h old new stall → IsShort (picture_of new) stall
       → ShowsPages (picture_of new) s → Comes g h old new s command (Stalled stall)
-  stalls stall v is cause short shows =
-      Stalls stall (record { otherwise = fine v is; open_to = open_to stall; cause = cause_is stall cause })
-      (falls_short (picture_of new) s command fit shows stall short (let same = tables v is in omega (arith, same))) refl shows
+  stalls stall v is cause short shows = stalls_read g h old new s command frames files swaps fit (fine v is) (tables v is) stall cause short shows
 
   pub refused : (refusal : AccessRefusal) → IsRefusal g h old new pid addr width kind refusal → ShowsPages (picture_of old) s
       → (KeepsSeen (picture_of old) (picture_of new) → ShowsPages (picture_of new) s) → Comes g h old new s command (reply_of (reply_for refusal))
@@ -51,13 +58,13 @@ module _ {M : Type 0} {m : Levels.Ghosts M} {D E : Type 0} (g : Ghosts D) (h : G
     (keeps : g.keeps_model (disk_of new.store)) (swaps : h.keeps_model new.swap.pages.disk) (goes : Proceeds g h old new) (brings : BringsFiles g h W old new) where
   pub same : KeepsSeen (picture_of old) (picture_of new) → ShowsPages (picture_of new) s
   same kept =
-      shows_kept g (disk_of old.store) (disk_of new.store) W (picture_of old) (picture_of new) s goes.fit (brings swaps) goes.spaces keeps
-      (homes g old new s shows goes.reads keeps) kept shows.pages
+      shows_kept g old.store new.store W (picture_of old) (picture_of new) s goes.fit (brings swaps) goes.spaces keeps
+      (homes g old new s shows goes.ready goes.reads keeps) kept shows.pages
 
   pub files : ShowsFiles (picture_of new) s
   files =
-      shows_files g (disk_of old.store) (disk_of new.store) W (picture_of old) (picture_of new) s goes.fit (brings swaps) goes.spaces keeps
-      (homes g old new s shows goes.reads keeps) shows.pages
+      shows_files g old.store new.store W (picture_of old) (picture_of new) s goes.fit (brings swaps) goes.spaces keeps
+      (homes g old new s shows goes.ready goes.reads keeps) shows.pages
 
 -- what a read of a number comes to
 abbrev read_outcome : State → ℕ → Width → Access → Verdict → Outcome

@@ -4,7 +4,7 @@ use Rattle.spaces.proofs.Names.{ℕ, ◌≡◌, ◌≤◌, ◌+◌, true, false,
 use Rattle.spaces.specs.{Accesses.{reply_for}, Calls.{IsCaused}, Idle.{is_denial, refused_by, stalls_store, stalls_swap}}
 use Rattle.fault.specs.declared.refusal.AccessRefusal.TheVariants as Refusal
 use Rattle.fault.specs.Outcome as Faults
-use Rattle.stores.specs.Store.{disk_of}
+use Rattle.sized_stores.specs.Store.{disk_of}
 
 -- a fault is no stall
 pub no_stall : (fault : Fault) (stall : Stall) → Faulted fault ≡ Stalled stall → ⊥

@@ -24,7 +24,7 @@ module _ {M : Type 0} {m : Levels.Ghosts M} {D E : Type 0} (g : Ghosts D) (h : G
   no_error : Refused errno ≡ Refused EIO → ⊥
   no_error e = false≢true (subst (λ (n : Errno). not (is_io_error n) ≡ true) (same_errno errno EIO e) other)
 
-  accounts_refused : AccountsFor g h core core (Refused errno)
+  pub accounts_refused : AccountsFor g h core core (Refused errno)
   accounts_refused = record {
     sound = sound;
     room = record { frames = refl; slots = refl };

@@ -10,7 +10,7 @@ use Rattle.vm_types.specs.declared.region.Backing.TheVariants.{Common}
 use Rattle.{fault.proofs.Forms.{own_role}, frames.specs.{FrameTable.{role_of}, declared.role.Role.TheVariants.{Cache, Private, Table}}}
 use Rattle.frames.specs.FrameTable as Frames
 use Rattle.vm_types.specs.declared.access.Access.TheVariants as Accesses
-use Rattle.stores.specs.Store.{disk_of}
+use Rattle.sized_stores.specs.Store.{disk_of}
 
 -- the page of an access that is fine
 fine_page : (files : Files) (o : Option View) (kind : Access) (v : View) → page_verdict files o kind ≡ Fine v → o ≡ Some v

@@ -10,9 +10,10 @@ use Rattle.residency.specs.declared.kernel.Core.{Core}
 use Rattle.residency.specs.Picture.{picture_of}
 use Rattle.residency.specs.Stalls.{ReadCause}
 use Rattle.residency.specs.Shows.{ShowsPages}
-use Rattle.msync.specs.Shows.{IsSoundCore, CoreShows}
+use Rattle.msync.specs.{Core.{LacksTaken}, Shows.{IsSoundCore, CoreShows}}
 use Rattle.vm_types.specs.Capacity.{table_count, held_count}
-use Rattle.vm_types.specs.declared.command.Command.{Command}
+use Rattle.vm_types.specs.declared.command.{Command.{Command}, MsyncMode.{MsyncMode}}
+use Rattle.vm_types.specs.declared.command.Command.TheVariants.{Msync}
 use Rattle.vm_types.specs.declared.refusal.Errno.TheVariants.{EIO}
 use Rattle.vm_types.specs.declared.refusal.Stall.{Stall}
 use Rattle.vm_types.specs.declared.refusal.Stall.TheVariants.{NoFrames, NoSwap, SwapDevice, StoreDevice}
@@ -22,7 +23,7 @@ use Rattle.vm_types.specs.Stalls.{Causes, MayStall, reads_files, reads_swap}
 use Rattle.vm_types.specs.State.{State}
 use Rattle.vm_types.specs.Step.{outcome}
 use Rattle.spaces.specs.Idle.{is_denial, names_store, names_swap, refused_count}
-use Rattle.stores.specs.Store.{disk_of}
+use Rattle.sized_stores.specs.Store.{disk_of}
 
 -- Memory of so many frames, or so many slots, are short of what a command needs: the tables of the state after it and three more
 -- frames, or a slot for each page that processes have of their own, each touched file page and each page of an object that was stored to.
@@ -32,20 +33,26 @@ FallsShort frames slots s command NoSwap = slots < held_count s
 FallsShort frames slots s command SwapDevice = Unit {0}
 FallsShort frames slots s command StoreDevice = Unit {0}
 
+-- the command is an msync, and the store has no room for the pages and lengths that it takes
+module _ {M : Type 0} {m : Levels.Ghosts M} {D E : Type 0} where
+  abbrev pub LacksRoomFor : Core D E M m → Command → Type 0
+  LacksRoomFor c command = (pid : ℕ) × (addr : ℕ) × (len : ℕ) × (mode : MsyncMode) × (command ≡ Msync pid addr len mode) × LacksTaken c pid addr len
+
 module _ {M : Type 0} {m : Levels.Ghosts M} {D E : Type 0} (g : Ghosts D) (h : Ghosts E) where
-  -- what came to pass between two states of memory
-  abbrev pub causes : Core D E M m → Core D E M m → Causes
-  causes old new = record {
+  -- what came to pass in a command, between the memory before it and after it
+  abbrev pub causes : Core D E M m → Core D E M m → Command → Causes
+  causes old new command = record {
     store = g.failures (disk_of old.store) < g.failures (disk_of new.store);
     swap = h.failures old.swap.pages.disk < h.failures new.swap.pages.disk;
     refused = new.refused.number ≡ old.refused.number + 1;
+    room = LacksRoomFor old command;
   }
 
   -- The call returns what the flat model does and leaves the memory of its state, or it stalls, memory or slots being short where it
   -- names one of them, and nobody sees a change.
   pub data Comes (old new : Core D E M m) (s : State) (command : Command) (reply : Reply) : Type 0 where
     Does : reply ≡ (outcome s command).reply → ShowsPages (picture_of new) (outcome s command).state → Comes old new s command reply
-    Stalls : (stall : Stall) → MayStall (causes old new) s command stall → FallsShort (frame_count new.frames) (slots_of new.swap).total s command stall
+    Stalls : (stall : Stall) → MayStall (causes old new command) s command stall → FallsShort (frame_count new.frames) (slots_of new.swap).total s command stall
         → reply ≡ Stalled stall → ShowsPages (picture_of new) s → Comes old new s command reply
 
   -- the same from every state that memory shows, as long as the devices keep the disk model where the call reads them

@@ -2,7 +2,7 @@
 -- swap, and which refused a frame. Our own.
 use Rattle.std.specs.Prelude.{ℕ, Bool, true, false, not, if◌then◌else◌, is_some}
 use Rattle.vm_types.specs.declared.command.Command.{Command}
-use Rattle.vm_types.specs.declared.command.Command.TheVariants.{Spawn, Fork, Exit, Mmap, Munmap, Mprotect, Dontneed, Msync, Load, Store, Fetch, PastFaults}
+use Rattle.vm_types.specs.declared.command.Command.TheVariants.{Spawn, Fork, Exit, Mmap, Munmap, Mprotect, Dontneed, Msync, Truncate, Load, Store, Fetch, PastFaults}
 use Rattle.vm_types.specs.declared.refusal.Stall.{Stall}
 use Rattle.vm_types.specs.declared.refusal.Stall.TheVariants.{NoFrames, NoSwap, SwapDevice, StoreDevice}
 use Rattle.vm_types.specs.declared.reply.Reply.{Reply}
@@ -11,7 +11,7 @@ use Rattle.vm_types.specs.Prefix.{is_io_error}
 use Rattle.vm_types.specs.State.{State}
 use Rattle.vm_types.specs.Step.{commits}
 
--- whether a command may ask a device: it needs a frame, which may have to be freed, or a file page, or makes pages durable
+-- whether a command may ask a device: it needs a frame, which may have to be freed, or a file page, or makes pages or lengths durable
 abbrev pub may_ask : State → Command → Bool
 may_ask s Spawn = true
 may_ask s (Fork pid) = true
@@ -21,6 +21,7 @@ may_ask s (Munmap pid addr len) = false
 may_ask s (Mprotect pid addr len prot) = false
 may_ask s (Dontneed pid addr len) = false
 may_ask s (Msync pid addr len mode) = is_some (commits s (Msync pid addr len mode))
+may_ask s (Truncate file length) = true
 may_ask s (Load pid addr width) = true
 may_ask s (Store pid addr value) = true
 may_ask s (Fetch pid addr) = true

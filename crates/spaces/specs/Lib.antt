@@ -6,3 +6,4 @@ pub mod Processes
 pub mod Protections
 pub mod Ranges
 pub mod Space
+pub mod Truncating

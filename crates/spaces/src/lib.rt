@@ -1,4 +1,4 @@
-//! The calls of processes on their spaces: each returns what its manual page says, in the order of checks that is ours.
+//! The calls of processes on their spaces, and truncate: each returns what its manual page says, in the order of checks that is ours.
 #![tactic(auto)]
 
 mod accesses;
@@ -9,6 +9,7 @@ mod protections;
 mod region_room;
 mod requests;
 mod space;
+mod truncating;
 mod unmapping;
 
 pub use accesses::{fetch, load, store};
@@ -19,4 +20,5 @@ pub use processes::{exit, fork, spawn};
 pub use protections::mprotect;
 pub use region_room::RegionRoom;
 pub use requests::{MapRequest, ProtectRequest};
+pub use truncating::truncate;
 pub use unmapping::munmap;

@@ -1,7 +1,7 @@
 //! mmap.
 ghost use Rattle.std.specs.Prelude.{ℕ, ◌≡◌, ◌≤◌, ◌<◌, ◌+◌, ◌/◌, ◌^◌, Some, IfNone, IfSome, IfOk, OnOk, IfErr, true};
 ghost use Rattle.vm_types.specs.Limits.{user_start, user_end};
-ghost use Rattle.stores.specs.Store.{files_of};
+ghost use Rattle.sized_stores.specs.Store.{files_of};
 ghost use Rattle.regions.specs.RunList.{attr_at};
 ghost use Rattle.vm_types.specs.Replies.{reply_of};
 ghost use Rattle.vm_types.specs.Checks.{first_of, page_count};
@@ -27,7 +27,7 @@ use disk_model::SectorDisk;
 use ranges::{free_object, remap};
 use regions::Regions;
 use residency::{Core, PLACES};
-use stores::Store;
+use sized_stores::SizedStore;
 use vm_types::{
     Answer, Attr, Backing, Errno, FilePage, Levels, MapSource, ObjectPage, Pid, Placing,
     TooManyRuns, USER_START,
@@ -47,7 +47,7 @@ fn is_exact(placing: Placing) -> bool
 }
 
 /// Why a mapping is refused, whatever its place.
-fn refusal<D: SectorDisk>(store: &Store<D>, request: MapRequest) -> Option<Errno>
+fn refusal<D: SectorDisk>(store: &SizedStore<D>, request: MapRequest) -> Option<Errno>
     ensures asked { result ≡ first_of (mmap_asked_checks (files_of store.now) request.addr request.len request.prot request.source request.placing) }
     ensures fine { IfNone result (IsAsked request.len request.source) }
 {
@@ -76,7 +76,7 @@ fn refusal<D: SectorDisk>(store: &Store<D>, request: MapRequest) -> Option<Errno
 
 /// Why pages of a file can't be mapped. `writes` says whether stores that reach the file are asked for.
 fn file_refusal<D: SectorDisk>(
-    store: &Store<D>,
+    store: &SizedStore<D>,
     file: u64,
     offset: u64,
     len: u64,

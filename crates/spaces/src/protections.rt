@@ -1,6 +1,6 @@
 //! mprotect.
 ghost use Rattle.std.specs.Prelude.{◌≡◌, ◌+◌, ◌/◌, ◌<◌, ◌^◌, Some, OnOk, IfErr, true};
-ghost use Rattle.stores.specs.Store.{files_of};
+ghost use Rattle.sized_stores.specs.Store.{files_of};
 ghost use Rattle.vm_types.specs.Replies.{reply_of};
 ghost use Rattle.vm_types.specs.Checks.{first_of, page_count};
 ghost use Rattle.vm_types.specs.Counting.{any_below};
@@ -20,11 +20,11 @@ use disk_model::SectorDisk;
 use ranges::reprotect;
 use regions::Regions;
 use residency::Core;
-use stores::Store;
+use sized_stores::SizedStore;
 use vm_types::{Answer, Backing, Errno, Levels, Prot, TooManyRuns};
 
 /// Whether stores through a backing go to a file that may only be read.
-fn is_guarded<D: SectorDisk>(store: &Store<D>, backing: Backing) -> bool
+fn is_guarded<D: SectorDisk>(store: &SizedStore<D>, backing: Backing) -> bool
     ensures { result ≡ is_guarded (files_of store.now) backing }
 {
     match backing {
@@ -38,7 +38,7 @@ fn is_guarded<D: SectorDisk>(store: &Store<D>, backing: Backing) -> bool
 
 /// Whether some page of the row is a shared one of a file that may only be read.
 fn has_guarded<D: SectorDisk, M: Levels>(
-    store: &Store<D>,
+    store: &SizedStore<D>,
     regions: &Regions<M>,
     range: PageRange,
 ) -> bool
@@ -60,7 +60,7 @@ fn has_guarded<D: SectorDisk, M: Levels>(
 
 /// Whether stores are asked for, and some page of the row is a shared one of a file that may only be read.
 fn denies_stores<D: SectorDisk, M: Levels>(
-    store: &Store<D>,
+    store: &SizedStore<D>,
     regions: &Regions<M>,
     range: PageRange,
     prot: Prot,
@@ -72,7 +72,7 @@ fn denies_stores<D: SectorDisk, M: Levels>(
 
 /// Writes the regions with the permission for the pages of the range into `next`, or says why that is refused.
 fn permitted<D: SectorDisk, M: Levels>(
-    store: &Store<D>,
+    store: &SizedStore<D>,
     regions: &Regions<M>,
     range: PageRange,
     prot: Prot,

@@ -14,8 +14,8 @@ use std::alloc::Global;
 use stores::Store;
 use vm_types::FILES;
 
-/// Opens the store on a device, which carries out what a stop left, and gives the bytes of all its files, one file
-/// after another.
+/// Opens the store on a device, which carries out what a stop left, and gives the lengths and bytes of all its files, one
+/// file after another.
 ///
 /// # Errors
 ///
@@ -35,7 +35,7 @@ pub(crate) fn recovered(alloc: Global, disk: SimDisk) -> Result<Vec<u8>, TrialFa
     Ok(bytes)
 }
 
-/// The bytes of all files of an open store, one file after another.
+/// The lengths and bytes of all files of an open store, one file after another.
 fn contents<D: SectorDisk>(alloc: Global, store: &mut Store<D>) -> Result<Vec<u8>, TrialFault>
     requires { IsReadyStore D.SectorDisk store.old }
     ensures unopened { (fault : OpenFault) → IsErrOf result (TrialFault.Open fault) → ⊥ }
@@ -52,7 +52,7 @@ fn contents<D: SectorDisk>(alloc: Global, store: &mut Store<D>) -> Result<Vec<u8
     Ok(bytes)
 }
 
-/// Adds the bytes of a file, none where there is no such file.
+/// Adds the length of a file in eight bytes, the lowest first, and its bytes: none where there is no such file.
 fn add_file<D: SectorDisk>(
     store: &mut Store<D>,
     file: u32,
@@ -66,9 +66,10 @@ fn add_file<D: SectorDisk>(
     ensures touches { D.keeps_model (disk_of store.new) → Touches D.SectorDisk Nothing (disk_of store.old) (disk_of store.new) }
     ensures added { D.keeps_model (disk_of store.new) → OnOk result (bytes.new.items ≡ bytes.old.items ++ standing_bytes (D.sector_count (disk_of store.old)) (D.content (disk_of store.old)) file) }
 {
-    if store.info(u64::from(file)).is_none() {
+    let Some(info) = store.info(u64::from(file)) else {
         return Ok(());
-    }
+    };
+    bytes.extend_from_slice(&info.length.to_le_bytes())?;
     match show_opened(store, file, bytes) {
         Ok(()) => Ok(()),
         Err(ShowFault::Open(fault)) => Err(TrialFault::Open(fault)),

@@ -9,7 +9,7 @@ ghost use Rattle.stop_trials.specs.Fillings.{left_with};
 ghost use Rattle.stop_trials.specs.declared.fillings.Filling.TheVariants.{Old};
 
 use crate::fillings::Filling;
-use disk_model::{DiskFault, SectorDisk, SimDisk, parts};
+use disk_model::{DiskFault, SectorDisk, SimDisk, WriteZeros, parts};
 use std::alloc::{AllocError, Global};
 
 /// What a device is asked for that a stop can come in.
@@ -231,3 +231,6 @@ impl SectorDisk for StoppingDisk {
         self.disk.sync()
     }
 }
+
+/// Zeros are written page by page.
+impl WriteZeros for StoppingDisk {}

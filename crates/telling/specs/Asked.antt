@@ -28,6 +28,7 @@ module _ {D E : Type 0} where
   IsAskedOf m (Ask.Bytes pid addr) asked = IsOfProcess m pid (Told.Bytes pid addr) asked
   IsAskedOf m (Ask.Frames first last) asked = asked ≡ Told.Frames first last
   IsAskedOf m Ask.Slots asked = asked ≡ Told.Slots
+  IsAskedOf m Ask.Files asked = asked ≡ Told.Files
   IsAskedOf m Ask.Buffer asked = asked ≡ Told.Buffer
   IsAskedOf m Ask.Counts asked = asked ≡ Told.Counts
   IsAskedOf m (Ask.Watch is_on) asked = asked ≡ Told.Nothing

@@ -6,6 +6,7 @@ ghost use Rattle.machine.specs.Machine.{halted_of, IsSoundMachine};
 ghost use Rattle.telling.specs.Asked.{IsAskedOf, needs_memory};
 
 use crate::bytes::tell_bytes;
+use crate::files::tell_files;
 use crate::holdings::{tell_frames, tell_slots, tell_usage};
 use crate::maps::tell_maps;
 use crate::questions::Question;
@@ -38,6 +39,7 @@ pub fn answer_question<W: Write, D: SectorDisk, E: SectorDisk>(
         Asked::Bytes { process, addr } => tell_bytes(machine, process, addr, out),
         Asked::Frames { first, last } => tell_frames(machine, first, last, out),
         Asked::Slots => tell_slots(machine, out),
+        Asked::Files => tell_files(machine, out),
         Asked::Buffer => tell_buffer(machine, out),
         Asked::Counts => tell_counts(counts, machine, out),
         Asked::Nothing => Ok(()),
@@ -57,6 +59,7 @@ enum Asked {
     Bytes { process: Pid, addr: u64 },
     Frames { first: u32, last: u32 },
     Slots,
+    Files,
     Buffer,
     Counts,
     Nothing,
@@ -90,6 +93,7 @@ fn asked_of<D: SectorDisk, E: SectorDisk>(question: Question, machine: &Machine<
         },
         Question::Frames { first, last } => Asked::Frames { first, last },
         Question::Slots => Asked::Slots,
+        Question::Files => Asked::Files,
         Question::Buffer => Asked::Buffer,
     }
 }

@@ -3,7 +3,7 @@ ghost use Rattle.std.specs.Prelude.{◌≡◌, ◌≢◌, ◌<◌, ◌^◌, ℕ,
 ghost use Rattle.vm_types.specs.Limits.{user_end};
 ghost use Rattle.frames.specs.FrameTable.{IsFrame, bytes_of};
 ghost use Rattle.residency.specs.Picture.{entry, picture_of};
-ghost use Rattle.inspection.specs.Machines.{memory_of, Tells};
+ghost use Rattle.inspection.specs.Machines.{files_kept, memory_of, Tells};
 ghost use Rattle.machine.specs.Machine.{bits_of, halted_of, mode_of, IsSoundMachine};
 ghost use Rattle.telling.specs.Lying.{LiesAt, frame_told};
 
@@ -14,9 +14,9 @@ use residency::Core;
 use std::fmt::{self, Display, Formatter};
 use std::io::{self, Write};
 use sv39_walk::Pte;
-use vm_types::{Attr, FrameNo, Levels, PAGE_BYTES, PageKey, Pid};
+use vm_types::{FrameNo, Levels, PAGE_BYTES, PageKey, Pid};
 use watching::{PageText, bytes_before};
-use ways::user_end;
+use ways::{HomeView, attr_of, home_of, user_end};
 
 /// The bytes of a line.
 const ROW: usize = 16;
@@ -33,8 +33,8 @@ enum Lying {
     OwnFrame(u64),
     /// In a slot, as the process's own copy.
     OwnSlot(u64),
-    /// They are those of a page of a file or of shared anonymous memory, which lies there.
-    Behind(PageKey, Place),
+    /// They are those of a page of a file or of shared anonymous memory, which lies there, and at home shows this.
+    Behind(PageKey, Place, HomeView),
     /// In the zero page.
     ZeroPage,
     /// Nowhere: the process has no entry for it and nothing stands behind it, so that they are zeros.
@@ -70,7 +70,7 @@ pub(crate) fn tell_bytes<W: Write, D: SectorDisk, E: SectorDisk>(
 fn lying_of<D: SectorDisk, E: SectorDisk>(machine: &Machine<D, E>, pid: Pid, page: u64) -> Lying
     requires sound { IsSoundMachine D.SectorDisk E.SectorDisk machine.now }
     requires user { page < user_end (bits_of (mode_of machine.now)) }
-    ensures { halted_of machine.now ≡ false → LiesAt (memory_of machine.now) pid page result }
+    ensures { halted_of machine.now ≡ false → LiesAt (memory_of machine.now) (files_kept machine.now) pid page result }
 {
     let Some(attr) = attr_of(machine, pid, page) else {
         return Lying::Unmapped;
@@ -83,25 +83,9 @@ fn lying_of<D: SectorDisk, E: SectorDisk>(machine: &Machine<D, E>, pid: Pid, pag
         return Lying::OwnFrame(entry.frame());
     }
     match attr.backing.stands_on() {
-        Some(page) => Lying::Behind(page, place_of(machine, page)),
+        Some(page) => Lying::Behind(page, place_of(machine, page), home_of(machine, page)),
         None if entry.to_u64() == 0 => Lying::Untouched,
         None => Lying::ZeroPage,
-    }
-}
-
-/// What a page is by the runs of its process; `None` exactly where it is not mapped, or the machine has halted.
-#[tactic(auto, using(crate::proofs::Pages::run_begins, crate::proofs::Pages::run_is_behind))]
-fn attr_of<D: SectorDisk, E: SectorDisk>(
-    machine: &Machine<D, E>,
-    pid: Pid,
-    page: u64,
-) -> Option<Attr>
-    requires { IsSoundMachine D.SectorDisk E.SectorDisk machine.now }
-    ensures { halted_of machine.now ≡ false → result ≡ (memory_of machine.now).at pid page }
-{
-    match inspection::next_run(machine, pid, page) {
-        Some(run) if run.first == page => Some(run.attr),
-        _ => None,
     }
 }
 
@@ -181,7 +165,7 @@ impl Lying {
     {
         match self {
             Lying::OwnFrame(frame) => Some(FrameNo(u32::try_from(frame).ok()?)),
-            Lying::Behind(_, Place::Frame(frame)) => Some(frame),
+            Lying::Behind(_, Place::Frame(frame), _) => Some(frame),
             Lying::ZeroPage => Some(FrameNo(0)),
             _ => None,
         }
@@ -194,24 +178,31 @@ impl Display for Lying {
             Lying::Unmapped => f.write_str("not mapped"),
             Lying::OwnFrame(frame) => write!(f, "own copy, in frame {frame}"),
             Lying::OwnSlot(slot) => write!(f, "own copy, in slot {slot}"),
-            Lying::Behind(page, Place::Frame(frame)) => write!(
-                f,
-                "{}, in frame {}",
-                PageText(page),
-                frame.0
-            ),
-            Lying::Behind(page, Place::Slot(slot)) => write!(
-                f,
-                "{}, in slot {}",
-                PageText(page),
-                slot.0
-            ),
-            Lying::Behind(page, Place::Home) => match page {
-                PageKey::File(_) => write!(f, "{}, in the image", PageText(page)),
-                PageKey::Object(_) => write!(f, "{}, not touched, so zeros", PageText(page)),
-            },
+            Lying::Behind(page, place, home) => {
+                PageText(page).fmt(f)?;
+                tell_place(f, page, place, home)
+            }
             Lying::ZeroPage => f.write_str("the zero page, in frame 0"),
             Lying::Untouched => f.write_str("not touched, so zeros"),
         }
+    }
+}
+
+/// Where a page of a file or of shared anonymous memory lies, which at home shows that.
+fn tell_place<W: fmt::Write>(
+    f: &mut Formatter<W>,
+    page: PageKey,
+    place: Place,
+    home: HomeView,
+) -> fmt::Result {
+    match (place, home) {
+        (Place::Frame(frame), _) => write!(f, ", in frame {}", frame.0),
+        (Place::Slot(slot), _) => write!(f, ", in slot {}", slot.0),
+        (Place::Home, HomeView::Image) => f.write_str(", in the image"),
+        (Place::Home, HomeView::PastEnd) => f.write_str(", past the end of the file"),
+        (Place::Home, HomeView::Zeros) => match page {
+            PageKey::File(_) => f.write_str(", not touched since the file was shorter, so zeros"),
+            PageKey::Object(_) => f.write_str(", not touched, so zeros"),
+        },
     }
 }

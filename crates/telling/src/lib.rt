@@ -3,6 +3,7 @@
 
 mod answers;
 mod bytes;
+mod files;
 mod holdings;
 mod maps;
 mod questions;

@@ -20,6 +20,8 @@ pub enum Question {
     Frames { first: u32, last: u32 },
     /// The slots that hold something.
     Slots,
+    /// The files.
+    Files,
     /// The lines of the buffer of translations.
     Buffer,
     /// What was counted.
@@ -46,6 +48,7 @@ pub enum Form {
     Bytes,
     Frames,
     Slots,
+    Files,
     Buffer,
     Counts,
     Watch,
@@ -60,6 +63,7 @@ impl Display for Form {
             Form::Bytes => "?bytes P ADDR",
             Form::Frames => "?frames [FIRST LAST]",
             Form::Slots => "?slots",
+            Form::Files => "?files",
             Form::Buffer => "?tlb",
             Form::Counts => "?counts",
             Form::Watch => "?watch on|off",
@@ -73,13 +77,14 @@ impl Display for Misasked {
             Misasked::Words(form) => write!(f, "the form is {form}"),
             Misasked::Unknown => write!(
                 f,
-                "one may ask {}, {}, {}, {}, {}, {}, {}, {}, {}",
+                "one may ask {}, {}, {}, {}, {}, {}, {}, {}, {}, {}",
                 Form::Walk,
                 Form::Tables,
                 Form::Maps,
                 Form::Bytes,
                 Form::Frames,
                 Form::Slots,
+                Form::Files,
                 Form::Buffer,
                 Form::Counts,
                 Form::Watch
@@ -126,6 +131,8 @@ fn form_named(name: &[u8]) -> Option<Form>
             Some(Form::Bytes)
         } else if name == b"slots".as_slice() {
             Some(Form::Slots)
+        } else if name == b"files".as_slice() {
+            Some(Form::Files)
         } else if name == b"watch".as_slice() {
             Some(Form::Watch)
         } else {
@@ -159,6 +166,7 @@ fn question_of(form: Form, words: Words<'_>) -> Option<Question>
         Form::Bytes => bytes_of(words),
         Form::Frames => frames_of(words),
         Form::Slots => alone(words, Question::Slots),
+        Form::Files => alone(words, Question::Files),
         Form::Buffer => alone(words, Question::Buffer),
         Form::Counts => alone(words, Question::Counts),
         Form::Watch => watch_of(words),

@@ -1,6 +1,6 @@
 -- The words of a line stand for one command at most, whose name the first word is.
 use Rattle.{std.proofs.Common.{◌≡◌, ℕ, List, [], Option, None, get_or, subst, sym, ◌∙◌, ap}, trace_lang.{proofs.OneName.{Each, same_name}, specs.{Grammar.{IsForm}, Names.{name_text, ReadsWords}, declared.names.Name.{Name}}}}
-use Rattle.vm_types.specs.declared.command.Command.{Command, TheVariants.{Spawn, Fork, Exit, Mmap, Munmap, Mprotect, Dontneed, Msync, Load, Store, Fetch, PastFaults}}
+use Rattle.vm_types.specs.declared.command.Command.{Command, TheVariants.{Spawn, Fork, Exit, Mmap, Munmap, Mprotect, Dontneed, Msync, Truncate, Load, Store, Fetch, PastFaults}}
 use Rattle.trace_lang.specs.declared.names.Name.TheVariants as name
 
 abbrev pub form_name : Command → Name
@@ -12,6 +12,7 @@ form_name (Munmap pid addr len) = name.Munmap
 form_name (Mprotect pid addr len prot) = name.Mprotect
 form_name (Dontneed pid addr len) = name.Dontneed
 form_name (Msync pid addr len mode) = name.Msync
+form_name (Truncate file length) = name.Truncate
 form_name (Load pid addr width) = name.Load
 form_name (Store pid addr stored) = name.Store
 form_name (Fetch pid addr) = name.Fetch
@@ -28,6 +29,7 @@ begins ws (Exit pid) h = ap first h.1
 begins ws (Mmap pid addr len prot source placing) h = ap first h.5
 begins ws (Mprotect pid addr len prot) h = ap first h.4
 begins ws (Msync pid addr len mode) h = ap first h.4
+begins ws (Truncate file length) h = ap first h.2
 begins ws (Store pid addr stored) h = ap first h.4
 begins ws (Fetch pid addr) h = ap first h.2
 begins ws PastFaults h = ap first h
@@ -41,6 +43,7 @@ each P (Munmap pid addr len) all = all pid addr len
 each P (Mprotect pid addr len prot) all = all pid addr len prot
 each P (Dontneed pid addr len) all = all pid addr len
 each P (Msync pid addr len mode) all = all pid addr len mode
+each P (Truncate file length) all = all file length
 each P (Load pid addr width) all = all pid addr width
 each P (Store pid addr stored) all = all pid addr stored
 each P (Fetch pid addr) all = all pid addr

@@ -4,7 +4,7 @@ use Rattle.trace_lang.proofs.{FirstWord.{cut_words, front_words, mode_word, numb
 use Rattle.std.specs.List.{join_with_byte}
 use Rattle.trace_lang.specs.{Grammar.{HasNoSpace, IsBack, IsForm, IsMode, IsNumber, IsPermission, IsWidth}, Names.{ReadsWords, name_text}, Words.{BeginsWith, words_of}, declared.names.Name.{Name}}
 use Rattle.trace_lang.specs.declared.names.Name.TheVariants as name
-use Rattle.vm_types.specs.{Width.{byte_count}, declared.{command.{Command.{Command, TheVariants.{Spawn, Fork, Exit, Mmap, Munmap, Mprotect, Dontneed, Msync, Load, Store, Fetch, PastFaults}}, MapSource.{MapSource}, Placing.{Placing}}, permission.Prot.{Prot}}}
+use Rattle.vm_types.specs.{Width.{byte_count}, declared.{command.{Command.{Command, TheVariants.{Spawn, Fork, Exit, Mmap, Munmap, Mprotect, Dontneed, Msync, Truncate, Load, Store, Fetch, PastFaults}}, MapSource.{MapSource}, Placing.{Placing}}, permission.Prot.{Prot}}}
 
 -- the numbers before a command's last words
 abbrev pub numbers : Command → List ℕ
@@ -13,6 +13,7 @@ numbers (Munmap pid addr len) = pid ∷ addr ∷ []
 numbers (Mprotect pid addr len prot) = pid ∷ addr ∷ len ∷ []
 numbers (Dontneed pid addr len) = pid ∷ addr ∷ []
 numbers (Msync pid addr len mode) = pid ∷ addr ∷ len ∷ []
+numbers (Truncate file length) = file ∷ []
 numbers (Load pid addr width) = pid ∷ addr ∷ []
 numbers (Store pid addr stored) = pid ∷ addr ∷ byte_count stored.width ∷ []
 numbers (Fetch pid addr) = pid ∷ []
@@ -29,6 +30,7 @@ Ends (Munmap pid addr len) text = IsNumber text len
 Ends (Mprotect pid addr len prot) text = IsPermission text prot
 Ends (Dontneed pid addr len) text = IsNumber text len
 Ends (Msync pid addr len mode) text = IsMode text mode
+Ends (Truncate file length) text = IsNumber text length
 Ends (Load pid addr width) text = IsWidth text width
 Ends (Store pid addr stored) text = IsNumber text stored.value × (stored.value < 2 ^ (8 * byte_count stored.width))
 Ends (Fetch pid addr) text = IsNumber text addr
@@ -64,6 +66,7 @@ formed (Mprotect pid addr len prot) rest text h e =
 formed (Dontneed pid addr len) rest text h e = (h.1.0, h.2.1.0, rest, said name.Dontneed (pid ∷ addr ∷ []) rest text h _ (number_word rest len e), h.1.2, h.2.1.2, e)
 formed (Msync pid addr len mode) rest text h e =
     (h.1.0, h.2.1.0, h.2.2.1.0, rest, said name.Msync (pid ∷ addr ∷ len ∷ []) rest text h _ (mode_word rest mode e), h.1.2, h.2.1.2, h.2.2.1.2, e)
+formed (Truncate file length) rest text h e = (h.1.0, rest, said name.Truncate (file ∷ []) rest text h _ (number_word rest length e), h.1.2, e)
 formed (Load pid addr width) rest text h e = (h.1.0, h.2.1.0, rest, said name.Load (pid ∷ addr ∷ []) rest text h _ (number_word rest _ e), h.1.2, h.2.1.2, e)
 formed (Store pid addr stored) rest text h e =
     (h.1.0, h.2.1.0, h.2.2.1.0, rest, said name.Store (pid ∷ addr ∷ _ ∷ []) rest text h _ (number_word rest _ e.0), h.1.2, h.2.1.2, h.2.2.1.2, e.0, e.1)
@@ -86,6 +89,7 @@ taken said text (Munmap pid addr len) h = (h.2, (_, (h.0, joined text _ _ h.3 re
 taken said text (Mprotect pid addr len prot) h = (h.3, (_, (h.0, joined text _ _ h.4 refl, h.5), (_, (h.1, refl, h.6), (_, (h.2, refl, h.7), refl))), h.8)
 taken said text (Dontneed pid addr len) h = (h.2, (_, (h.0, joined text _ _ h.3 refl, h.4), (_, (h.1, refl, h.5), refl)), h.6)
 taken said text (Msync pid addr len mode) h = (h.3, (_, (h.0, joined text _ _ h.4 refl, h.5), (_, (h.1, refl, h.6), (_, (h.2, refl, h.7), refl))), h.8)
+taken said text (Truncate file length) h = (h.1, (_, (h.0, joined text _ _ h.2 refl, h.3), refl), h.4)
 taken said text (Load pid addr width) h = (h.2, (_, (h.0, joined text _ _ h.3 refl, h.4), (_, (h.1, refl, h.5), refl)), h.6)
 taken said text (Store pid addr stored) h = (h.3, (_, (h.0, joined text _ _ h.4 refl, h.5), (_, (h.1, refl, h.6), (_, (h.2, refl, h.7), refl))), (h.8, h.9))
 taken said text (Fetch pid addr) h = (h.1, (_, (h.0, joined text _ _ h.2 refl, h.3), refl), h.4)

@@ -5,7 +5,7 @@ use Rattle.std.specs.Str.Parse.{IsNumeral, digits_value}
 use Rattle.vm_types.specs.Permission.{with_bits}
 use Rattle.vm_types.specs.Width.{byte_count}
 use Rattle.vm_types.specs.declared.command.Command.{Command}
-use Rattle.vm_types.specs.declared.command.Command.TheVariants.{Spawn, Fork, Exit, Mmap, Munmap, Mprotect, Dontneed, Msync, Load, Store, Fetch, PastFaults}
+use Rattle.vm_types.specs.declared.command.Command.TheVariants.{Spawn, Fork, Exit, Mmap, Munmap, Mprotect, Dontneed, Msync, Truncate, Load, Store, Fetch, PastFaults}
 use Rattle.vm_types.specs.declared.command.MapSource.{MapSource}
 use Rattle.vm_types.specs.declared.command.MapSource.TheVariants.{Anon, Private, Shared, Common}
 use Rattle.vm_types.specs.declared.command.MsyncMode.{MsyncMode}
@@ -86,6 +86,8 @@ IsForm words (Dontneed pid addr len) =
 IsForm words (Msync pid addr len mode) =
     (p a l m : List ℕ) × (words ≡ codes "msync" ∷ p ∷ a ∷ l ∷ m ∷ [])
     × IsNumber p pid × IsNumber a addr × IsNumber l len × IsMode m mode
+IsForm words (Truncate file length) =
+    (f l : List ℕ) × (words ≡ codes "truncate" ∷ f ∷ l ∷ []) × IsNumber f file × IsNumber l length
 IsForm words (Load pid addr width) =
     (p a w : List ℕ) × (words ≡ codes "load" ∷ p ∷ a ∷ w ∷ [])
     × IsNumber p pid × IsNumber a addr × IsWidth w width

@@ -2,7 +2,7 @@
 use Rattle.std.specs.Prelude.{◌≡◌, ℕ, List, ◌∷◌, Option, Some, IfSome, codes}
 use Rattle.trace_lang.specs.Grammar.{IsForm, IsNumber, IsPlacing}
 use Rattle.trace_lang.specs.declared.names.Name.{Name}
-use Rattle.trace_lang.specs.declared.names.Name.TheVariants.{Spawn, Fork, Exit, Mmap, Munmap, Mprotect, Dontneed, Msync, Load, Store, Fetch, Faults}
+use Rattle.trace_lang.specs.declared.names.Name.TheVariants.{Spawn, Fork, Exit, Mmap, Munmap, Mprotect, Dontneed, Msync, Truncate, Load, Store, Fetch, Faults}
 use Rattle.trace_lang.specs.declared.names.SourceName.{SourceName}
 use Rattle.trace_lang.specs.declared.names.SourceName.TheVariants as source
 use Rattle.vm_types.specs.declared.command.Command.{Command}
@@ -19,6 +19,7 @@ name_text Munmap = codes "munmap"
 name_text Mprotect = codes "mprotect"
 name_text Dontneed = codes "dontneed"
 name_text Msync = codes "msync"
+name_text Truncate = codes "truncate"
 name_text Load = codes "load"
 name_text Store = codes "store"
 name_text Fetch = codes "fetch"

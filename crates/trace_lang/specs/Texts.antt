@@ -7,7 +7,7 @@ use Rattle.vm_types.specs.Width.{byte_count}
 use Rattle.vm_types.specs.declared.refusal.Code.{Code}
 use Rattle.vm_types.specs.declared.refusal.Code.TheVariants.{BusAdraln, SegvMaperr, SegvAccerr, BusAdrerr}
 use Rattle.vm_types.specs.declared.refusal.Errno.{Errno}
-use Rattle.vm_types.specs.declared.refusal.Errno.TheVariants.{ESRCH, EIO, EBADF, EAGAIN, ENOMEM, EACCES, EEXIST, EINVAL, ENOSPC, EOVERFLOW}
+use Rattle.vm_types.specs.declared.refusal.Errno.TheVariants.{ESRCH, EIO, EBADF, EAGAIN, ENOMEM, EACCES, EEXIST, EINVAL, EFBIG, ENOSPC, EOVERFLOW}
 use Rattle.vm_types.specs.declared.refusal.Fault.{Fault}
 use Rattle.vm_types.specs.declared.refusal.Stall.{Stall}
 use Rattle.vm_types.specs.declared.refusal.Stall.TheVariants.{NoFrames, NoSwap, SwapDevice, StoreDevice}
@@ -33,6 +33,7 @@ errno_name ENOMEM = codes "ENOMEM"
 errno_name EACCES = codes "EACCES"
 errno_name EEXIST = codes "EEXIST"
 errno_name EINVAL = codes "EINVAL"
+errno_name EFBIG = codes "EFBIG"
 errno_name ENOSPC = codes "ENOSPC"
 errno_name EOVERFLOW = codes "EOVERFLOW"
 
@@ -95,6 +96,10 @@ wide_row = refl
 pub refusal_row : text_of (Refused ENOSPC) ≡ codes "error 28 ENOSPC\n"
 unfolding digits
 refusal_row = refl
+
+pub large_row : text_of (Refused EFBIG) ≡ codes "error 27 EFBIG\n"
+unfolding digits
+large_row = refl
 
 pub stall_row : text_of (Stalled StoreDevice) ≡ codes "stall 4 STOREDEV\n"
 unfolding digits

@@ -73,6 +73,15 @@ fn msync_in(text: &[u8]) -> Option<Command>
     })
 }
 
+/// A truncate.
+fn truncate_in(text: &[u8]) -> Option<Command>
+    ensures { ReadsWords (codes "truncate" ∷ words_of text.now) result }
+{
+    let (file, text) = front_number(text)?;
+    let length = parse_number(text)?;
+    Some(Command::Truncate { file, length })
+}
+
 /// An mmap.
 fn mmap_in(text: &[u8]) -> Option<Command>
     ensures { ReadsWords (codes "mmap" ∷ words_of text.now) result }
@@ -158,6 +167,7 @@ pub(crate) fn named_in(line: &[u8]) -> Option<Command>
         Name::Mprotect => mprotect_in(text),
         Name::Dontneed => dontneed_in(text),
         Name::Msync => msync_in(text),
+        Name::Truncate => truncate_in(text),
         Name::Load => load_in(text),
         Name::Store => store_in(text),
         Name::Fetch => fetch_in(text),

@@ -12,6 +12,7 @@ pub(crate) enum Name {
     Mprotect,
     Dontneed,
     Msync,
+    Truncate,
     Load,
     Store,
     Fetch,
@@ -57,6 +58,8 @@ pub(crate) fn name_of(word: &[u8]) -> Option<Name>
             Some(Name::Mprotect)
         } else if word == b"dontneed".as_slice() {
             Some(Name::Dontneed)
+        } else if word == b"truncate".as_slice() {
+            Some(Name::Truncate)
         } else {
             None
         },

@@ -21,6 +21,7 @@ fn errno_text(errno: Errno) -> &'static [u8]
         Errno::EACCES => b"EACCES",
         Errno::EEXIST => b"EEXIST",
         Errno::EINVAL => b"EINVAL",
+        Errno::EFBIG => b"EFBIG",
         Errno::ENOSPC => b"ENOSPC",
         Errno::EOVERFLOW => b"EOVERFLOW",
     }

@@ -4,3 +4,11 @@ pub mod Cleared
 pub mod Forgot
 pub mod Dropped
 pub mod Resized
+pub mod CutFrames
+pub mod CutTwice
+pub mod EndCut
+pub mod FrontKept
+pub mod LengthShown
+pub mod StoreLength
+pub mod EndReady
+pub mod Lengthened

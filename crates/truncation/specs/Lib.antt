@@ -2,3 +2,4 @@ pub mod Cuts
 pub mod Steps
 pub mod Drops
 pub mod Lengths
+pub mod Resizing

@@ -1,4 +1,4 @@
--- Files: fixed lengths, cut into pages of 4,096 bytes.
+-- Files, each of some length, in pages of 4,096 bytes.
 use Rattle.std.specs.Prelude.{ℕ, ◌≡◌, refl, false, ◌-◌, ◌*◌, min, Bool, true, ◌==◌, ◌&&◌, nat_le, if◌then◌else◌, List, ◌++◌, take, replicate, Option, Some, None}
 use Rattle.vm_types.specs.declared.file.FileInfo.{FileInfo}
 use Rattle.vm_types.specs.View.{Pages}

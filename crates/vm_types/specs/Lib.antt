@@ -23,6 +23,7 @@ pub mod Runs
 pub mod Stalls
 pub mod State
 pub mod Step
+pub mod Truncation
 pub mod Verdict
 pub mod View
 pub mod Width

@@ -2,9 +2,9 @@
 -- Park, Kelly and Shen, Failure-Atomic msync, EuroSys 2013.
 use Rattle.std.specs.Prelude.{ℕ, zero, suc, ◌≤◌, ◌≡◌, Bool, true, false, if◌then◌else◌, List, [], ◌∷◌}
 use Rattle.vm_types.specs.declared.command.Command.{Command}
-use Rattle.vm_types.specs.declared.command.Command.TheVariants.{Spawn, Fork, Exit, Mmap, Munmap, Mprotect, Dontneed, Msync, Load, Store, Fetch, PastFaults}
+use Rattle.vm_types.specs.declared.command.Command.TheVariants.{Spawn, Fork, Exit, Mmap, Munmap, Mprotect, Dontneed, Msync, Truncate, Load, Store, Fetch, PastFaults}
 use Rattle.vm_types.specs.declared.refusal.Errno.{Errno}
-use Rattle.vm_types.specs.declared.refusal.Errno.TheVariants.{ESRCH, EIO, EBADF, EAGAIN, ENOMEM, EACCES, EEXIST, EINVAL, ENOSPC, EOVERFLOW}
+use Rattle.vm_types.specs.declared.refusal.Errno.TheVariants.{ESRCH, EIO, EBADF, EAGAIN, ENOMEM, EACCES, EEXIST, EINVAL, EFBIG, ENOSPC, EOVERFLOW}
 use Rattle.vm_types.specs.declared.reply.Reply.{Reply}
 use Rattle.vm_types.specs.declared.reply.Reply.TheVariants.{Process, Address, Done, Value, Faulted, Refused, Stalled, Halted, Past}
 use Rattle.vm_types.specs.State.{State}
@@ -29,6 +29,7 @@ is_msync (Load pid addr width) = false
 is_msync (Store pid addr value) = false
 is_msync (Fetch pid addr) = false
 is_msync (Dontneed pid addr len) = false
+is_msync (Truncate file length) = false
 is_msync PastFaults = false
 
 abbrev pub is_io_error : Errno → Bool
@@ -40,6 +41,7 @@ is_io_error ENOMEM = false
 is_io_error EACCES = false
 is_io_error EEXIST = false
 is_io_error EINVAL = false
+is_io_error EFBIG = false
 is_io_error ENOSPC = false
 is_io_error EOVERFLOW = false
 

@@ -1,7 +1,7 @@
 -- When a command may stall: it would succeed, but memory or a device is wanting. Our own choice.
 use Rattle.std.specs.Prelude.{◌≡◌, Bool, true, false, is_some}
 use Rattle.vm_types.specs.declared.command.Command.{Command}
-use Rattle.vm_types.specs.declared.command.Command.TheVariants.{Spawn, Fork, Exit, Mmap, Munmap, Mprotect, Dontneed, Msync, Load, Store, Fetch, PastFaults}
+use Rattle.vm_types.specs.declared.command.Command.TheVariants.{Spawn, Fork, Exit, Mmap, Munmap, Mprotect, Dontneed, Msync, Truncate, Load, Store, Fetch, PastFaults}
 use Rattle.vm_types.specs.declared.refusal.Stall.{Stall}
 use Rattle.vm_types.specs.declared.refusal.Stall.TheVariants.{NoFrames, NoSwap, SwapDevice, StoreDevice}
 use Rattle.vm_types.specs.declared.reply.Reply.{Reply}
@@ -9,11 +9,13 @@ use Rattle.vm_types.specs.declared.reply.Reply.TheVariants.{Process, Address, Do
 use Rattle.vm_types.specs.State.{State}
 use Rattle.vm_types.specs.Step.{outcome, commits}
 
--- What came to pass in a call besides its reply: the store device failed, the swap device failed, a request for a frame was refused.
+-- What came to pass in a call besides its reply: the store device failed, the swap device failed, a request for a frame was refused, or the store
+-- had no room for the lengths and pages that an msync would make durable.
 pub record Causes : Type 1 where
   pub store : Type 0
   pub swap : Type 0
   pub refused : Type 0
+  pub room : Type 0
 
 -- whether a reply tells of success
 abbrev pub is_success : Reply → Bool
@@ -40,6 +42,7 @@ needs_frames (Load pid addr width) = true
 needs_frames (Store pid addr value) = true
 needs_frames (Fetch pid addr) = true
 needs_frames (Dontneed pid addr len) = false
+needs_frames (Truncate file length) = true
 needs_frames PastFaults = false
 
 -- whether a command may read a file page from the store
@@ -55,6 +58,7 @@ reads_files (Load pid addr width) = true
 reads_files (Store pid addr value) = true
 reads_files (Fetch pid addr) = true
 reads_files (Dontneed pid addr len) = false
+reads_files (Truncate file length) = true
 reads_files PastFaults = false
 
 -- whether a command may read the swap device
@@ -70,6 +74,7 @@ reads_swap s (Load pid addr width) = true
 reads_swap s (Store pid addr value) = true
 reads_swap s (Fetch pid addr) = true
 reads_swap s (Dontneed pid addr len) = false
+reads_swap s (Truncate file length) = true
 reads_swap s PastFaults = false
 
 -- whether that stall may come of that command

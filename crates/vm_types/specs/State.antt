@@ -1,6 +1,6 @@
 -- The flat model: processes as maps of pages, files as rows of pages, and objects. No frames, tables, slots or journal.
 use Rattle.std.specs.Prelude.{ℕ, ◌==◌, ◌&&◌, if◌then◌else◌, Bool, List, [], ◌∷◌, Option, Some, None, ◌≡◌}
-use Rattle.vm_types.specs.Files.{Files, Contents}
+use Rattle.vm_types.specs.Files.{Files, Contents, bytes_inside, cut}
 use Rattle.vm_types.specs.History.{Past}
 use Rattle.vm_types.specs.declared.region.Backing.{Backing}
 use Rattle.vm_types.specs.declared.region.Backing.TheVariants.{Anon, Private, Shared, Common}
@@ -14,8 +14,13 @@ pub record State : Type 0 where
   pub live : ℕ → Bool
   -- the mapped pages of each process: process, page number
   pub views : ℕ → ℕ → Option View
-  -- the files, which never change, and the most pages of them that one msync makes durable
+  -- the files as processes see them, whether they may get other lengths, and which have got another one since theirs was made durable
   pub files : Files
+  pub resizes : Bool
+  pub resized : ℕ → Bool
+  -- how short each file has been since then, in bytes: what it had from there on is lost, and zeros stand there until it is stored to again
+  pub shortest : ℕ → ℕ
+  -- the most touched pages that one msync makes durable
   pub most : ℕ
   -- the bytes of each file page that all mappings see
   pub volatile : Pages
@@ -36,6 +41,10 @@ IsRunning s = s.ends ≡ None
 -- the machine halts, with the files as they were or as a commit would leave them
 abbrev pub halted : State → Contents → State
 halted s after = record s { ends = Some (s.durable ∷ after ∷ []) }
+
+-- what is kept of a file page that isn't touched: as it is durable, with zeros from where its file was cut off since
+abbrev pub home_page : State → ℕ → ℕ → List ℕ
+home_page s file page = cut (bytes_inside (s.shortest file) page) (s.durable.pages file page)
 
 -- a page's bytes, or zeros where it has none
 abbrev pub or_zeros : Option (List ℕ) → List ℕ

@@ -1,11 +1,11 @@
 -- What each command returns and what it leaves.
--- mmap(2), munmap(2), mprotect(2), fork(2), _exit(2), msync(2), sigaction(2); the order of the checks is our choice.
-use Rattle.std.specs.Prelude.{ℕ, zero, suc, length, slice_get, ◌≡◌, refl, ◌+◌, ◌%◌, ◌*◌, ◌/◌, ◌==◌, ◌&&◌, not, false, nat_lt, if◌then◌else◌, [], ◌∷◌, Option, Some, None}
+-- mmap(2), munmap(2), mprotect(2), fork(2), _exit(2), msync(2), truncate(2), sigaction(2); the order of the checks is our choice.
+use Rattle.std.specs.Prelude.{ℕ, zero, suc, length, slice_get, ◌≡◌, refl, ◌+◌, ◌%◌, ◌*◌, ◌/◌, ◌==◌, ◌&&◌, not, Bool, false, nat_lt, if◌then◌else◌, [], ◌∷◌, Option, Some, None}
 use Rattle.vm_types.specs.declared.access.Access.{Access}
 use Rattle.vm_types.specs.declared.access.Access.TheVariants as Accesses
 use Rattle.vm_types.specs.declared.access.StoredValue.{StoredValue}
 use Rattle.vm_types.specs.declared.command.Command.{Command}
-use Rattle.vm_types.specs.declared.command.Command.TheVariants.{Spawn, Fork, Exit, Mmap, Munmap, Mprotect, Dontneed, Msync, Load, Store, Fetch, PastFaults}
+use Rattle.vm_types.specs.declared.command.Command.TheVariants.{Spawn, Fork, Exit, Mmap, Munmap, Mprotect, Dontneed, Msync, Truncate, Load, Store, Fetch, PastFaults}
 use Rattle.vm_types.specs.declared.command.MapSource.{MapSource}
 use Rattle.vm_types.specs.declared.permission.Prot.{Prot}
 use Rattle.vm_types.specs.declared.refusal.Code.TheVariants.{BusAdraln, SegvAccerr, SegvMaperr}
@@ -19,13 +19,14 @@ use Rattle.vm_types.specs.declared.width.Width.TheVariants.{One, Four}
 use Rattle.vm_types.specs.Access.{loaded, stored}
 use Rattle.vm_types.specs.Checks.{first_of, page_count, pages_from}
 use Rattle.vm_types.specs.Mapping.{mmap_errno, mmap_place, attr_for, with_mapping}
-use Rattle.vm_types.specs.Msync.{Ruling, Refuses, Passes, Takes, msync_ruling, committed, synced}
+use Rattle.vm_types.specs.Msync.{Ruling, Refuses, Passes, Takes, msync_ruling, shows_resized, committed, synced}
 use Rattle.vm_types.specs.Permission.{kept, with_bits}
 use Rattle.vm_types.specs.Processes.{least_free_from, least_free_pid, with_process, forked, without_process}
 use Rattle.vm_types.specs.History as History
 use Rattle.vm_types.specs.Ranges.{munmap_checks, without_row, asked_checks, row_checks, with_protection, covered_checks, without_copies}
 use Rattle.vm_types.specs.Rows.{is_covered}
 use Rattle.vm_types.specs.State.{State, shown}
+use Rattle.vm_types.specs.Truncation.{length_in, truncate_checks, truncated}
 use Rattle.vm_types.specs.Verdict.{Verdict, Fine, Faults, verdict, fault_of}
 use Rattle.vm_types.specs.Files.{Contents}
 use Rattle.vm_types.specs.View.{View, zero_page}
@@ -102,6 +103,12 @@ msync_outcome s (Refuses errno) = answers s (Refused errno)
 msync_outcome s Passes = answers s Done
 msync_outcome s (Takes pid first count) = record { reply = Done; state = synced s pid first count }
 
+-- truncate: refused; done, with nothing changed, where the file is so long already; or done, and the file is so long
+abbrev pub truncate_outcome : State → ℕ → ℕ → Outcome
+truncate_outcome s file length =
+    refused_or s (first_of (truncate_checks s file length))
+    (if length_in (s.files file) == length then answers s Done else record { reply = Done; state = truncated s file length })
+
 -- load: the number that the page shows
 abbrev pub load_outcome : State → ℕ → Width → Verdict → Outcome
 load_outcome s addr width (Faults code) = answers s (Faulted (fault_of Accesses.Load code addr))
@@ -133,6 +140,7 @@ outcome s (Munmap pid addr len) = munmap_outcome s pid addr len
 outcome s (Mprotect pid addr len prot) = mprotect_outcome s pid addr len prot
 outcome s (Dontneed pid addr len) = dontneed_outcome s pid addr len
 outcome s (Msync pid addr len mode) = msync_outcome s (msync_ruling s pid addr len mode)
+outcome s (Truncate file length) = truncate_outcome s file length
 outcome s (Load pid addr width) =
     if s.live pid then load_outcome s addr width (judged s pid addr width Accesses.Load) else answers s (Refused ESRCH)
 outcome s (Store pid addr value) =
@@ -166,6 +174,7 @@ past_after (Munmap pid addr len) reply past = past
 past_after (Mprotect pid addr len prot) reply past = past
 past_after (Dontneed pid addr len) reply past = past
 past_after (Msync pid addr len mode) reply past = past
+past_after (Truncate file length) reply past = past
 past_after PastFaults reply past = past
 
 -- the state with the fault of an access in its history
@@ -181,6 +190,7 @@ ruling s (Mmap pid addr len prot source placing) = Passes
 ruling s (Munmap pid addr len) = Passes
 ruling s (Mprotect pid addr len prot) = Passes
 ruling s (Dontneed pid addr len) = Passes
+ruling s (Truncate file length) = Passes
 ruling s PastFaults = Passes
 ruling s (Msync pid addr len mode) = msync_ruling s pid addr len mode
 ruling s (Load pid addr width) = Passes
@@ -203,6 +213,16 @@ commit_of s (Takes pid first count) = Some (committed s pid first count s.durabl
 abbrev pub commits : State → Command → Option Contents
 commits s command = commit_of s (ruling s command)
 
+-- whether a file that has got another length is among what is taken
+abbrev pub takes_lengths : State → Ruling → Bool
+takes_lengths s (Refuses errno) = false
+takes_lengths s Passes = false
+takes_lengths s (Takes pid first count) = shows_resized s pid first count
+
+-- the same of a command
+abbrev pub commits_lengths : State → Command → Bool
+commits_lengths s command = takes_lengths s (ruling s command)
+
 -- a process with two pages of anonymous memory: page 16 to be read and written, with its first byte stored, and page 17
 -- to be run alone
 abbrev pub sample_space : ℕ → Option View
@@ -217,6 +237,9 @@ sample_state count = record {
   live = λ pid. not (pid == 0) && nat_lt pid (count + 1);
   views = λ pid. sample_space;
   files = λ file. None;
+  resizes = false;
+  resized = λ file. false;
+  shortest = λ file. 0;
   most = 0;
   volatile = λ file page. zero_page;
   durable = record { files = λ file. None; pages = λ file page. zero_page };

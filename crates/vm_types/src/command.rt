@@ -83,6 +83,11 @@ pub enum Command {
         len: u64,
         mode: MsyncMode,
     },
+    /// Gives a file another length (truncate(2)).
+    Truncate {
+        file: u64,
+        length: u64,
+    },
     /// Reads a number.
     Load {
         pid: u64,

@@ -1,4 +1,4 @@
-//! Files, which have numbers, fixed lengths and pages.
+//! Files, which have numbers, lengths and pages.
 ghost use Rattle.std.specs.Prelude.{◌≡◌, ◌≤◌};
 ghost use Rattle.vm_types.specs.Files.{bytes_inside};
 
@@ -12,7 +12,7 @@ pub struct FilePage {
     pub page: u32,
 }
 
-/// What is fixed of a file: its length in bytes, 2^42 at most, and whether it may only be read.
+/// A file: its length in bytes, 2^42 at most, and whether it may only be read.
 #[derive(Clone, Copy, Debug, PartialEq, Eq)]
 pub struct FileInfo {
     pub length: u64,

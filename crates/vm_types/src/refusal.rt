@@ -18,9 +18,11 @@ pub enum Errno {
     EACCES = 13,
     /// A page of the range is mapped.
     EEXIST = 17,
-    /// An argument is no multiple of the page size, or the length is zero.
+    /// An argument is no multiple of the page size, the length of a range is zero, or the store's files keep their lengths.
     EINVAL = 22,
-    /// More touched pages than one msync takes.
+    /// The file would be longer than a file can be, 2^42 bytes.
+    EFBIG = 27,
+    /// More touched pages than one msync takes, or no room in the store for the lengths and pages that it takes.
     ENOSPC = 28,
     /// The mapping would pass the last page that a file can have.
     EOVERFLOW = 75,

@@ -1,13 +1,15 @@
 //! What each command did inside, found by comparing what frames held before it and after it.
-ghost use Rattle.std.specs.Prelude.{◌≡◌, ◌≢◌, ◌<◌, ◌-◌, ◌^◌, false, length, min, slice_get, IfOk, IfSome, IsNone, OnOk, Some};
+ghost use Rattle.std.specs.Prelude.{◌≡◌, ◌≢◌, ◌<◌, ◌-◌, ◌^◌, ◌&&◌, not, false, length, min, slice_get, IfOk, IfSome, IsNone, OnOk, Some};
 ghost use Rattle.frames.specs.FrameTable.{IsFrame};
-ghost use Rattle.inspection.specs.Machines.{memory_of};
+ghost use Rattle.inspection.specs.Machines.{files_kept, memory_of};
 ghost use Rattle.machine.specs.Machine.{halted_of, IsSoundMachine};
 ghost use Rattle.watching.specs.Books.{HasCountRoom, IsBalanced, IsOfCause, IsOneMore, IsTallied, KeepsBooks, ReadsNothing};
-ghost use Rattle.watching.specs.Changes.{IsLoss, IsSharing, content_in};
+ghost use Rattle.watching.specs.Changes.{IsLoss, IsSharing, content_in, is_gone, is_gone_from};
+ghost use Rattle.ways.specs.Homes.{home_of};
 ghost use Rattle.watching.specs.Noted.{KeepsNotes, NotesFrame, NotesFrames};
 
 use crate::counts::{Count, Counts, FrameCounts};
+use crate::cuts::Cut;
 use crate::events::{Content, Event, Refuge, Source};
 use disk_model::SectorDisk;
 use inspection::{FrameView, Holding, Mapper, PageEntry, PageView, Place, Step};
@@ -16,7 +18,7 @@ use std::alloc::{AllocError, Global};
 use std::io::{self, Write};
 use sv39_walk::Pte;
 use vm_types::{FrameNo, PageKey, Pid};
-use ways::{Target, Uses, Way, frame_in, slot_in, top_level};
+use ways::{Behind, HomeView, Target, Uses, Way, attr_of, frame_in, home_of, slot_in, top_level};
 
 /// What each frame held after the last command, and what was counted since the start.
 #[derive(Drop)]
@@ -43,6 +45,10 @@ pub(crate) struct Inquiry<'a, D, E> {
     pub machine: &'a Machine<D, E>,
     /// The page of an access.
     pub target: Option<&'a Target>,
+    /// The page of a file or of shared anonymous memory that it may have brought into a frame, as it was before.
+    pub behind: Option<Behind>,
+    /// The file that it has given another length.
+    pub cut: Option<Cut>,
     /// The frame that the page of an access has as its own now, and had not before.
     pub gained: Option<FrameNo>,
     /// Whether the command may have asked for frames, so that others were given up for it.
@@ -156,6 +162,8 @@ impl Ledger {
         let inquiry = Inquiry {
             machine,
             target: Some(target),
+            behind: target.behind,
+            cut: None,
             gained: target.gained(now),
             is_asking: true,
             is_watched: self.is_watching,
@@ -280,13 +288,13 @@ impl<D: SectorDisk, E: SectorDisk> Inquiry<'_, D, E> {
     /// What a frame lost.
     fn loss_of(&self, frame: FrameNo, was: &Held) -> Option<Event>
         requires { IsSoundMachine D.SectorDisk E.SectorDisk self.now.machine.now }
-        ensures { IsLoss self.now.is_asking frame was.now result }
+        ensures { halted_of self.now.machine.now ≡ false → IsLoss (memory_of self.now.machine.now) self.now.cut self.now.is_asking frame was.now result }
     {
         if was.view.holding == Holding::Table {
             return Some(Event::TableFreed { frame });
         }
         let content = content_of(was)?;
-        if !self.is_asking {
+        if !self.gave_up(&content) {
             return Some(Event::Released { frame, content });
         }
         let refuge = match content {
@@ -306,6 +314,36 @@ impl<D: SectorDisk, E: SectorDisk> Inquiry<'_, D, E> {
         })
     }
 
+    /// Whether a frame that lost this was given up for another. A call that doesn't ask for frames gave it back, and what is cut off a file is gone.
+    fn gave_up(&self, content: &Content) -> bool
+        requires { IsSoundMachine D.SectorDisk E.SectorDisk self.now.machine.now }
+        ensures { halted_of self.now.machine.now ≡ false
+            → result ≡ (self.now.is_asking && not (is_gone (memory_of self.now.machine.now) self.now.cut content.now)) }
+    {
+        let Some(cut) = self.cut else {
+            return self.is_asking;
+        };
+        self.is_asking && !self.is_cut_off(cut, content)
+    }
+
+    /// Whether what a frame held was cut off that file.
+    fn is_cut_off(&self, cut: Cut, content: &Content) -> bool
+        requires { IsSoundMachine D.SectorDisk E.SectorDisk self.now.machine.now }
+        ensures { halted_of self.now.machine.now ≡ false → result ≡ is_gone_from (memory_of self.now.machine.now) cut content.now }
+    {
+        match *content {
+            Content::Own {
+                pid: Some(pid),
+                page,
+            } => match attr_of(self.machine, pid, page) {
+                Some(attr) => cut.takes_copy(attr.backing),
+                None => false,
+            },
+            Content::Page(PageKey::File(page)) => cut.has(page),
+            Content::Own { pid: None, .. } | Content::Page(PageKey::Object(_)) => false,
+        }
+    }
+
     /// Where a page of a file or of shared anonymous memory is now whose frame was given up. One that lies in a frame again came back within the
     /// command: it is the page that was accessed, and was touched then or not.
     fn refuge_of_page(&self, page: PageKey, now: Option<PageView>) -> Refuge {
@@ -319,15 +357,15 @@ impl<D: SectorDisk, E: SectorDisk> Inquiry<'_, D, E> {
         }
     }
 
-    /// Whether that page stands behind the page of the access and was touched.
+    /// Whether that page may have been brought into a frame and was touched before.
     fn knows_touched(&self, page: PageKey) -> bool {
-        match self.target {
-            Some(target) => target.knows_touched(page),
+        match self.behind {
+            Some(behind) => behind.knows_touched(page),
             None => false,
         }
     }
 
-    /// What a frame got. Only an access brings a page into one.
+    /// What a frame got. Only an access brings a page into one, or the change of a file's length.
     fn gain_of(&self, frame: FrameNo, held: &Held) -> Option<Event>
         requires { IsSoundMachine D.SectorDisk E.SectorDisk self.now.machine.now }
     {
@@ -341,16 +379,42 @@ impl<D: SectorDisk, E: SectorDisk> Inquiry<'_, D, E> {
             return Some(Event::TableMade { frame, place, top });
         }
         let content = content_of(held)?;
-        let target = self.target?;
         let source = match &content {
-            Content::Own { .. } => source_of_own(target, frame_behind(target, self.machine)),
-            Content::Page(page) => source_of_page(target, *page),
+            Content::Own { .. } => {
+                let target = self.target?;
+                source_of_own(target, frame_behind(target, self.machine))
+            }
+            Content::Page(page) => self.source_of_page(*page)?,
         };
         Some(Event::Filled {
             frame,
             content,
             source,
         })
+    }
+
+    /// Where the command had the page of a file or of shared anonymous memory from.
+    fn source_of_page(&self, page: PageKey) -> Option<Source>
+        requires { IsSoundMachine D.SectorDisk E.SectorDisk self.now.machine.now }
+        ensures { halted_of self.now.machine.now ≡ false → result ≡ Some Source.Image → home_of (files_kept self.now.machine.now) page ≡ HomeView.Image }
+    {
+        if self.target.is_none() && self.cut.is_none() {
+            return None;
+        }
+        match self.place_before(page) {
+            Some(Place::Slot(slot)) => return Some(Source::Slot(Some(slot))),
+            Some(Place::Frame(_)) if self.knows_touched(page) => return Some(Source::Slot(None)),
+            _ => {}
+        }
+        match home_of(self.machine, page) {
+            HomeView::Image => Some(Source::Image),
+            HomeView::Zeros | HomeView::PastEnd => Some(Source::Zeros),
+        }
+    }
+
+    /// Where that page was, if it is the one that may have been brought into a frame.
+    fn place_before(&self, page: PageKey) -> Option<Place> {
+        self.behind?.place_of(page)
     }
 }
 
@@ -463,18 +527,5 @@ fn source_of_own(target: &Target, behind: Option<FrameNo>) -> Source {
     match shown {
         None | Some(FrameNo(0)) => Source::Zeros,
         Some(frame) => Source::Frame(frame),
-    }
-}
-
-/// Where the access had the page of a file or of shared anonymous memory from.
-fn source_of_page(target: &Target, page: PageKey) -> Source {
-    match target.place_of(page) {
-        Some(Place::Slot(slot)) => return Source::Slot(Some(slot)),
-        Some(Place::Frame(_)) if target.knows_touched(page) => return Source::Slot(None),
-        _ => {}
-    }
-    match page {
-        PageKey::File(_) => Source::Image,
-        PageKey::Object(_) => Source::Zeros,
     }
 }

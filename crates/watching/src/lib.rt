@@ -3,6 +3,7 @@
 #![tactic(auto)]
 
 mod counts;
+mod cuts;
 mod events;
 mod ledger;
 mod pending;

@@ -6,12 +6,13 @@ ghost use Rattle.watching.specs.Outcomes.{outcome_of};
 ghost use Rattle.watching.specs.Settling.{CountsCommand};
 
 use crate::counts::{AccessCounts, CallCounts, Counts};
+use crate::cuts::Cut;
 use crate::ledger::{Inquiry, Ledger};
 use disk_model::SectorDisk;
 use machine::Machine;
 use std::io::{self, Write};
 use vm_types::Command;
-use ways::Target;
+use ways::{Behind, Target};
 
 /// What a command came to, by the first letter of its reply.
 #[derive(Clone, Copy)]
@@ -29,6 +30,8 @@ pub struct Pending {
     command: Command,
     /// The page of an access.
     target: Option<Target>,
+    /// The file that is to get another length.
+    cut: Option<Cut>,
     /// How many accesses had found a translation kept.
     hits: u64,
 }
@@ -59,8 +62,8 @@ impl Outcome {
 }
 
 impl Pending {
-    /// A command before it is carried out, with what its page's entry says and what stands behind the page. A ledger that is watching notes which
-    /// frames are in use.
+    /// A command before it is carried out, with what its page's entry says and what stands behind the page, or the file that is to get another
+    /// length. A ledger that is watching notes which frames are in use.
     pub fn new<D: SectorDisk, E: SectorDisk>(
         command: Command,
         ledger: &mut Ledger,
@@ -77,9 +80,14 @@ impl Pending {
             | Command::Fetch { pid, addr } => Target::new(machine, pid, addr),
             _ => None,
         };
+        let cut = match command {
+            Command::Truncate { file, length } => Cut::new(machine, file, length),
+            _ => None,
+        };
         let pending = Pending {
             command,
             target,
+            cut,
             hits: machine.hits(),
         };
         ledger.note_uses(machine, pending.asked_frames(), pending.target.as_ref());
@@ -124,6 +132,8 @@ impl Pending {
                 let inquiry = Inquiry {
                     machine,
                     target: self.target.as_ref(),
+                    behind: self.behind(),
+                    cut: self.cut_by(outcome),
                     gained: None,
                     is_asking: self.is_asking(),
                     is_watched: ledger.is_watching,
@@ -186,20 +196,38 @@ impl Pending {
         Reach::All
     }
 
-    /// The most frames that it may ask for: of an access three tables, a page of a file and a copy of it.
+    /// The page of a file or of shared anonymous memory that it may bring into a frame, as it was before.
+    fn behind(&self) -> Option<Behind> {
+        match (self.target, self.cut) {
+            (Some(target), _) => target.behind,
+            (None, Some(cut)) => Some(cut.end),
+            (None, None) => None,
+        }
+    }
+
+    /// The file that it has given another length, where it came to that outcome.
+    fn cut_by(&self, outcome: Outcome) -> Option<Cut> {
+        match outcome {
+            Outcome::Done => self.cut,
+            _ => None,
+        }
+    }
+
+    /// The most frames that it may ask for: of an access three tables, a page of a file and a copy of it, and of a truncate a page of the file.
     fn asked_frames(&self) -> u32 {
         match self.command {
             Command::Fork { .. } => u32::MAX,
+            Command::Truncate { .. } => 1,
             _ if self.is_asking() => 5,
             _ => 0,
         }
     }
 
-    /// Whether it wants frames, so that others may have been given up: only a spawn, a fork and an access do.
+    /// Whether it wants frames, so that others may have been given up: only a spawn, a fork, an access and a truncate do.
     fn is_asking(&self) -> bool {
         match self.command {
             Command::Spawn | Command::Fork { .. } => true,
-            _ => self.target.is_some(),
+            _ => self.target.is_some() || self.cut.is_some(),
         }
     }
 }

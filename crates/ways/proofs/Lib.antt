@@ -1,1 +1,2 @@
 mod OnWays
+mod Runs

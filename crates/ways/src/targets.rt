@@ -3,6 +3,7 @@ ghost use Rattle.std.specs.Prelude.{◌/◌, IfSome};
 ghost use Rattle.machine.specs.Machine.{IsSoundMachine};
 ghost use Rattle.ways.specs.WaySteps.{IsTargetAt};
 
+use crate::attrs::attr_of;
 use crate::way::Way;
 use disk_model::SectorDisk;
 use inspection::{PageView, Place};
@@ -67,21 +68,32 @@ impl Target {
             && self.entry.frame() == now.frame();
         if is_kept { None } else { Some(FrameNo(frame)) }
     }
+}
 
-    /// Where that page was, if it stands behind this one.
+impl Behind {
+    /// A page of a file or of shared anonymous memory as it is; `None` where the machine has halted.
+    pub fn new<D: SectorDisk, E: SectorDisk>(
+        machine: &Machine<D, E>,
+        page: PageKey,
+    ) -> Option<Behind>
+        requires { IsSoundMachine D.SectorDisk E.SectorDisk machine.now }
+    {
+        let view = inspection::page_view(machine, page)?;
+        Some(Behind { page, view })
+    }
+
+    /// Where that page was, if it is this one.
     pub fn place_of(&self, page: PageKey) -> Option<Place> {
-        match self.behind {
-            Some(behind) if behind.page == page => Some(behind.view.place),
-            _ => None,
+        if self.page == page {
+            Some(self.view.place)
+        } else {
+            None
         }
     }
 
-    /// Whether that page stands behind this one and was touched.
+    /// Whether that page is this one and was touched.
     pub fn knows_touched(&self, page: PageKey) -> bool {
-        match self.behind {
-            Some(behind) => behind.page == page && behind.view.is_touched,
-            None => false,
-        }
+        self.page == page && self.view.is_touched
     }
 }
 
@@ -93,11 +105,5 @@ fn behind_of<D: SectorDisk, E: SectorDisk>(
 ) -> Option<Behind>
     requires { IsSoundMachine D.SectorDisk E.SectorDisk machine.now }
 {
-    let run = inspection::next_run(machine, pid, page)?;
-    if run.first != page {
-        return None;
-    }
-    let page = run.attr.backing.stands_on()?;
-    let view = inspection::page_view(machine, page)?;
-    Some(Behind { page, view })
+    Behind::new(machine, attr_of(machine, pid, page)?.backing.stands_on()?)
 }

@@ -61,6 +61,7 @@ returns g c =
       tends = record {
         proceeds = proceeds_then g.D.SectorDisk g.E.SectorDisk before between after first.proceeds done.moves;
         brings = brings_on before between pid page file shows g.D.SectorDisk g.E.SectorDisk after first.brings first.keeps done.moves.store done.moves.device done.files.held done.files.files;
+        touches = λ p touched. done.files.touched p ∙ first.keeps.touched p ∙ touched;
         others = λ q k other. done.others q k other ∙ first.keeps.views q k;
         slotted = slotted_on old mid pid page new file shows first.slotted done.slotted;
         calm = calm_then before between pid page file shows (λ n is. (idle n is).0) after Store (owned_calm between after pid page attr at alone done.calm);

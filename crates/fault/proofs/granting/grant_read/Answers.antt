@@ -100,7 +100,7 @@ returns-in_ok-frame-in-Some g c access reads lets =
     let now = enters.spaces.at pid page ∙ first.proceeds.spaces.at pid page ∙ mapped in
     let seen = seen_then old mid new first.keeps (record { views = enters.views; touched = files.touched }) in
     record {
-      tends = tends_shown g.D.SectorDisk g.E.SectorDisk before between pid page access stored shows c.requires.may.1.spot.linked.fit after _ first (λ n at. (idle n at).0) enters files.held files.files;
+      tends = tends_shown g.D.SectorDisk g.E.SectorDisk before between pid page access stored shows c.requires.may.1.spot.linked.fit after _ first (λ n at. (idle n at).0) enters files.held files.files (λ q touched. files.touched q ∙ touched);
       entered = read_entered old new pid page c.args.attr.now access frame _ _ _ enters.fit after.sound mapped now seen c.show_cached.ensures.entry reads lets (full_shown c.show_cached.ensures);
       ready = λ trusted. read_ready old new pid page c.args.attr.now access frame _ _ _ enters.fit after.sound mapped now seen c.show_cached.ensures.entry reads lets;
       chance = λ one. others_for old new pid page _ _ (all_marked_for old pid page (read_keeps old pid page access reads)) (others_on old mid new pid page None first.chance enters.calm.others);

@@ -1,5 +1,5 @@
 use Rattle.fault.proofs.{Forms.{mapped_page, shared_none}, Settled.{full_touched, reads_too, entered_store, entered_ready, ready_shared, touched_entry, touches_after}, Serving.{may_bring, shows_at, serves_away, stands_brought, open_brought, tends_shown}}
-use Rattle.fault.proofs.{Names.{false, inl, ap, ◌∙◌, Store, slots_of, picture_of, entry}, AccessSteps.{held_marked, counts_then, counts_calm}}
+use Rattle.fault.proofs.{Names.{false, inl, ap, ◌∙◌, Store, slots_of, picture_of, entry}, AccessSteps.{held_marked, still_touched, counts_then, counts_calm}}
 use Rattle.fault.proofs.{Chances.{others_for, others_on}, Kept.{all_marked_for, shared_keeps}, Names.{None}}
 use Rattle.fault.proofs.granting.grant_shared.Goals as goal
 
@@ -32,7 +32,7 @@ returns g c =
     let touched = touched_entry mid new pid page attr stored frame enters.fit after.sound now c.requires.shared c.requires.stands readable c.touch.ensures.entry enters.views marks.others in
     record {
       tends = tends_shown g.D.SectorDisk g.E.SectorDisk before between pid page Store stored shows fit after _ first (λ n at. (idle n at).0) enters
-          (λ q. inl (held_marked mid new stored marks (ap slots_of enters.calm.swap) q)) marks.files;
+          (λ q. inl (held_marked mid new stored marks (ap slots_of enters.calm.swap) q)) marks.files (still_touched mid new stored marks);
       entered = entered_store new pid page attr frame false readable c.touch.ensures.entry
           (full_touched new attr stored frame (entry new pid page) c.requires.shared c.requires.stands marks.touched c.requires.may.allowed.lets c.touch.ensures.entry) (entered_ready Store mid new pid page attr frame (ready_shared mid new pid page attr stored frame c.requires.shared c.requires.stands touched));
       ready = λ trusted. ready_shared old new pid page attr stored frame c.requires.shared c.requires.stands (touches_after old mid new stored frame first.keeps touched);

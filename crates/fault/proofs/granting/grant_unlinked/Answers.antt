@@ -3,7 +3,7 @@ use Rattle.fault.proofs.{Linked.{open_still, calm_back, read_back, away_back, re
 use Rattle.fault.{proofs.{Names.{otherwise, picture_of, IsWhole}, Serving.{serves_stall}, Wanted.{root_live, root_lives, whole_or}, WaySteps.{links_on}}, specs.Wants.{ForTable, ShowsFile}}
 use Rattle.fault.{proofs.Names.{AnyStore, Core, OnOk}, specs.Chances.{AreAllMarkedFor, GivesOthersChance, WantsOneFrame}}
 use Rattle.fault.proofs.granting.grant_unlinked.Goals as goal
-use Rattle.stores.specs.Store.{disk_of}
+use Rattle.sized_stores.specs.Store.{disk_of}
 
 pub link_tables-requires-clause-live : goal.link_tables-requires-clause-live
 link_tables-requires-clause-live g c = root_lives ((picture_of c.args.core.now).root c.args.pid) c.requires.may.lives
@@ -38,7 +38,8 @@ returns-in_err-table g c =
     serves_stall g.D.SectorDisk g.E.SectorDisk before after pid page c.args.attr.now c.args.access c.from_residual.result c.in_err-table.field-0.0 c.from_residual.ensures.1
     (record {
       proceeds = proceeds_moves g.D.SectorDisk g.E.SectorDisk before after c.requires.may.store done.moves;
-      brings = λ kept. brings_none g.D.SectorDisk (disk_of before.store) (disk_of after.store) (ShowsFile old pid page) old new done.pages.files;
+      brings = λ kept. brings_none g.D.SectorDisk before.store after.store (ShowsFile old pid page) old new done.pages.files;
+      touches = λ p touched. done.pages.files.touched p ∙ touched;
       others = λ q k other. done.pages.views q k;
       slotted = slotted_none old new pid page done.slotted;
       calm = λ unwanted. absurd (unwanted (ForTable lacks));
@@ -72,6 +73,7 @@ returns g c =
       tends = record {
         proceeds = proceeds_after g.D.SectorDisk g.E.SectorDisk before between after first.moves then.proceeds;
         brings = brings_back before between pid page lives first.pages idle g.D.SectorDisk g.E.SectorDisk first.moves after then.brings;
+        touches = λ p touched. then.touches p (first.pages.files.touched p ∙ touched);
         others = λ q k other. then.others q k other ∙ first.pages.views q k;
         slotted = slotted_back old (picture_of between) pid page (picture_of after) first.pages first.slotted then.slotted;
         calm = calm_back before between pid page lives first.pages idle after access then.calm;

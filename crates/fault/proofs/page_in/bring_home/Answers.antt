@@ -2,7 +2,7 @@ use Rattle.fault.proofs.{AccessSteps.{no_new_of, pages_in_beside, keeps_in, only
 use Rattle.fault.{proofs.Names.{PageKey, File, Object, asks_wider, once_wider, IsSectorOf, picture_of}, specs.{Asking.{IsSectorOfPage, IsSectorOfStoredPage}, Files.{IsInStore}, PagingIn.{PagesIn}}}
 use Rattle.fault.proofs.Chances.{chance_came}
 use Rattle.fault.proofs.page_in.bring_home.Goals as goal
-use Rattle.stores.specs.Store.{disk_of}
+use Rattle.sized_stores.specs.Store.{disk_of}
 
 pub returns-in-File : goal.returns-in-File
 returns-in-File g c =
@@ -19,7 +19,7 @@ returns-in-File g c =
     (let placed = placed_in done.comes in
     let only = only_in done.comes in
     let chance = chance_came before after page r done.brought done.aged in
-    let brings = brings_home_of g.D.SectorDisk (disk_of before.store) (disk_of after.store) old new c.in-File.page r done.brought done.frees (untouched_home old page c.requires.may.fit home) done.read in
+    let brings = brings_home_of g.D.SectorDisk before.store after.store old new c.in-File.page r done.brought done.frees (untouched_home old page c.requires.may.fit home) done.read in
     let read : IsInStore old page = (c.in-File.page, refl, home) in
     let asks = asks_swap g.E.SectorDisk before after None (IsSectorOfPage old page) done.asked in
     let asks_store = asks_wider g.D.SectorDisk (IsSectorOf before.store c.in-File.page) (IsSectorOfStoredPage before.store page) (disk_of before.store) (disk_of after.store) (λ k is. (c.in-File.page, refl, is)) done.asks in
@@ -40,4 +40,4 @@ returns-in-Object g c =
     subst (λ (p : PageKey). PagesIn g.D.SectorDisk g.E.SectorDisk before after p r) (sym c.in-Object.is)
     (pages_in_beside g.D.SectorDisk g.E.SectorDisk c.requires.may.fit c.requires.may.store (λ k at. let bad = sym home ∙ at in (cc)) done.comes done.rest done.aged done.uses done.refused
     (asks_swap g.E.SectorDisk before after None (IsSectorOfPage old page) done.asked)
-    (λ kept. brings_blank_of g.D.SectorDisk (disk_of before.store) (disk_of after.store) old (picture_of after) c.in-Object.page r done.brought done.frees (untouched_home old page c.requires.may.fit home) done.blank))
+    (λ kept. brings_blank_of g.D.SectorDisk before.store after.store old (picture_of after) c.in-Object.page r done.brought done.frees (untouched_home old page c.requires.may.fit home) done.blank))

@@ -3,7 +3,7 @@ use Rattle.fault.specs.Files.{IsInStore}
 use Rattle.fault.proofs.{Names.{◌≡◌, ◌⊎◌, IsFull, KeepsRolesBut, Some, None, inl, inr, refl, rules, picture_of}, Steps.{no_table_none, slotted_same, device_none, files_same, seen_none}}
 use Rattle.fault.proofs.Chances.{chance_none}
 use Rattle.fault.proofs.page_in.cached.Goals as goal
-use Rattle.stores.specs.Store.{disk_of}
+use Rattle.sized_stores.specs.Store.{disk_of}
 
 pub returns-in-Frame-clause-pages_in : goal.returns-in-Frame-clause-pages_in
 returns-in-Frame-clause-pages_in g c =
@@ -12,7 +12,7 @@ returns-in-Frame-clause-pages_in g c =
     let only : IsFull core.frames ⊎ KeepsRolesBut (picture_of core) (picture_of core) c.in-Frame.frame.0 = inr (λ n ne. refl) in
     let reads = reads_none g.D.SectorDisk core.store core.store refl in
     let device = device_none g.E.SectorDisk core.swap.pages.disk in
-    let brings = brings_none g.D.SectorDisk (disk_of core.store) (disk_of core.store) (λ p. p ≡ page) (picture_of core) (picture_of core) (files_same (picture_of core)) in
+    let brings = brings_none g.D.SectorDisk core.store core.store (λ p. p ≡ page) (picture_of core) (picture_of core) (files_same (picture_of core)) in
     let keeps = seen_none (picture_of core) in
     let chance = chance_none (picture_of core) None in
     let no_table = no_table_none (picture_of core) in

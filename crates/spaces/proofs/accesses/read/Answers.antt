@@ -1,5 +1,5 @@
-use Rattle.spaces.proofs.Names.{ℕ, ◌/◌, ◌%◌, List, refl, sym, ap, ◌∙◌, subst, rules, IsWalked, bytes_of, picture_of, Answer, Value, loaded, byte_count, reply_of}
-use Rattle.spaces.{specs.Accesses.{CarriesRead, KeepsToPage}, proofs.{Asking.{asks_unstalled, keeps_dead, keeps_refused, writes_none}, Reading.{open_read, reads, read_refused}, Room.{room_left}}}
+use Rattle.spaces.proofs.Names.{ℕ, ◌/◌, ◌%◌, List, File, refl, ap, ◌∙◌, rules, bytes_of, picture_of, Value, loaded, byte_count}
+use Rattle.spaces.{proofs.{Asking.{asks_unstalled, keeps_dead, keeps_refused, writes_none}, Reading.{open_read, reads, read_refused}, Room.{sound_read}}}
 use Rattle.spaces.proofs.accesses.read.Goals as goal
 
 pub frame_of-frame-requires : goal.frame_of-frame-requires
@@ -18,7 +18,7 @@ returns-in-Ok-clause-keeps g c =
     let goes = tends.proceeds in
     let counts = c.in-Ok.ensures.counts in
     rw (← c.in-Some.ensures.found.0) (record {
-      accounts = record { sound = record { ready = goes.ready; room = room_left a.core.now.store new.store goes.reads.same c.requires.sound.room; swap = goes.swap; fit = goes.fit }; room = goes.room; denied = λ e. cc; caused = search (rules, counts) };
+      accounts = record { sound = sound_read a.core.now new g.D.SectorDisk g.E.SectorDisk goes.reads goes.ready goes.swap goes.fit (λ p. tends.touches (File p)) c.requires.sound; room = goes.room; denied = λ e. cc; caused = search (rules, counts) };
       others = tends.others;
       reads = goes.reads;
       device = goes.device;
@@ -41,7 +41,7 @@ returns-in-Ok-clause-comes g c =
 pub returns-in-Err-clause-keeps : goal.returns-in-Err-clause-keeps
 returns-in-Err-clause-keeps g c =
     let a = c.args in
-    rw (← c.in-Some.ensures.found.0) (rw c.refused.ensures (keeps_refused g.D.SectorDisk g.E.SectorDisk a.core.now c.access.new.core c.in-Some.pid a.addr a.width a.kind c.access.result c.in-Err.refusal c.access.ensures c.in-Err.ensures.refusal c.requires.sound.room))
+    rw (← c.in-Some.ensures.found.0) (rw c.refused.ensures (keeps_refused g.D.SectorDisk g.E.SectorDisk a.core.now c.access.new.core c.in-Some.pid a.addr a.width a.kind c.access.result c.in-Err.refusal c.access.ensures c.in-Err.ensures.refusal c.requires.sound))
 
 pub returns-in-Err-clause-walked : goal.returns-in-Err-clause-walked
 returns-in-Err-clause-walked g c place walked =

@@ -1,6 +1,6 @@
-use Rattle.spaces.proofs.Names.{ℕ, ◌<◌, ◌≡◌, inr, is_some, ◌/◌, ◌%◌, List, refl, sym, ap, ◌∙◌, subst, rules, arith, FrameTable, IsHeld, IsSound, with_bytes, IsHeld-above, IsHeld-not_zero, IsSound-step, with_bytes-others, IsThatPage, Grants}
-use Rattle.spaces.proofs.Names.{IsReadyToStore, IsOpenToStore, IsWalked, Tends, ShowsFile, picture_of, Store, Phys, Answer, Done, with_number, byte_count, reply_of}
-use Rattle.spaces.{specs.{Accesses.{KeepsToPage, LetsThrough}, Calls.{Comes}}, proofs.{Asking.{asks_unstalled, keeps_dead, keeps_refused, no_root, one_end, one_place, writes_walked}, Calls.{found_lives}, Room.{room_left}}}
+use Rattle.spaces.proofs.Names.{ℕ, ◌<◌, ◌≡◌, inr, is_some, ◌/◌, ◌%◌, List, File, refl, sym, ap, ◌∙◌, rules, arith, FrameTable, IsHeld, IsSound, with_bytes, IsHeld-above, IsHeld-not_zero, IsSound-step, with_bytes-others, IsThatPage}
+use Rattle.spaces.proofs.Names.{ShowsFile, picture_of, Phys, Done, with_number, byte_count}
+use Rattle.spaces.{proofs.{Asking.{asks_unstalled, keeps_dead, keeps_refused, no_root, one_end, one_place, writes_walked}, Calls.{found_lives}, Room.{sound_read}}}
 use Rattle.spaces.proofs.Writing.{data_frame, entries_stored, fit_stored, open_held, others_stored, room_stored, slotted_stored, store_refused, stores}
 use Rattle.vm_types.specs.declared.access.Access.TheVariants as Accesses
 use Rattle.fault.proofs.Chances.{others_kept}
@@ -19,13 +19,14 @@ returns-in-Ok-clause-keeps g c =
     let a = c.args in
     let old = picture_of a.core.now in
     let mid = picture_of c.access.new.core in
-    let found = c.in-Some.ensures.found.0 in
-    let tends = rw found at c.access.ensures.tends in
+    let same = c.in-Some.ensures.found.0 in
+    let tends = rw same at c.access.ensures.tends in
     let goes = tends.proceeds in
+    let found = sound_read a.core.now c.access.new.core g.D.SectorDisk g.E.SectorDisk goes.reads goes.ready goes.swap goes.fit (λ p. tends.touches (File p)) c.requires.sound in
     let placed = c.in-Ok.ensures.placed in
     let n = c.frame_of-frame.result.0 in
     let backing = placed.seen.attr.backing in
-    let usable = rw (← c.frame_of-frame.ensures, found) at placed.usable in
+    let usable = rw (← c.frame_of-frame.ensures, same) at placed.usable in
     let written = writes_walked c.access.new.core c.access.new.core _ n n (a.addr % 4096) a.stored c.write_number.new.page refl refl
     (record { store = refl; swap = refl; cache = refl; roots = refl; regions = refl; page_of = refl }) refl refl refl
     (c.write_number.ensures
@@ -33,11 +34,12 @@ returns-in-Ok-clause-keeps g c =
     record {
       accounts = record {
         sound = record {
-          ready = goes.ready;
-          room = room_left a.core.now.store c.access.new.core.store goes.reads.same c.requires.sound.room;
-          swap = goes.swap;
+          ready = found.ready;
+          room = found.room;
+          swap = found.swap;
           fit = fit_stored mid _ a.pid (a.addr / 4096) backing n c.write_number.new.page goes.fit usable refl
               (record { slots = refl; root = λ q. refl; at = λ q k. refl; page_of = λ m. refl; place = λ p. refl; touched = λ p. refl; files = λ f. refl });
+          ends = found.ends;
         };
         room = room_stored old mid _ n c.write_number.new.page goes.room refl refl;
         denied = search rules;
@@ -53,8 +55,8 @@ returns-in-Ok-clause-keeps g c =
           (ShowsFile old a.pid (a.addr / 4096)) (IsThatPage a.pid (a.addr / 4096)) goes.fit usable refl
           (record { slots = refl; root = λ q. refl; at = λ q k. refl; page_of = λ m. refl; place = λ p. refl; touched = λ p. refl; files = λ f. refl }) tends.slotted)
           (inr (n, a.addr % 4096, a.stored, data_frame mid a.pid (a.addr / 4096) n backing goes.fit usable, written)) Done (λ stall e. cc) (λ e. refl)
-          (λ done. rw (← found) (placed.root, c.in-Ok.place, placed.lives, placed.place))
-          (λ done one. others_kept old mid _ a.pid (a.addr / 4096) _ ((rw found at c.in-Ok.ensures.chance) one)
+          (λ done. rw (← same) (placed.root, c.in-Ok.place, placed.lives, placed.place))
+          (λ done one. others_kept old mid _ a.pid (a.addr / 4096) _ ((rw same at c.in-Ok.ensures.chance) one)
           (λ q p inside. entries_stored mid _ a.pid (a.addr / 4096) backing n c.write_number.new.page goes.fit usable refl
           (record { slots = refl; root = λ q. refl; at = λ q k. refl; page_of = λ m. refl; place = λ p. refl; touched = λ p. refl; files = λ f. refl }) q p));
     }
@@ -94,7 +96,7 @@ pub returns-in-Err-clause-keeps : goal.returns-in-Err-clause-keeps
 returns-in-Err-clause-keeps g c =
     let a = c.args in
     let new = c.access.new.core in
-    rw (← c.in-Some.ensures.found.0) (rw c.refused.ensures (keeps_refused g.D.SectorDisk g.E.SectorDisk a.core.now new c.in-Some.pid a.addr a.stored.width Accesses.Store c.access.result c.in-Err.refusal c.access.ensures c.in-Err.ensures.refusal c.requires.sound.room))
+    rw (← c.in-Some.ensures.found.0) (rw c.refused.ensures (keeps_refused g.D.SectorDisk g.E.SectorDisk a.core.now new c.in-Some.pid a.addr a.stored.width Accesses.Store c.access.result c.in-Err.refusal c.access.ensures c.in-Err.ensures.refusal c.requires.sound))
 
 pub returns-in-Err-clause-walked : goal.returns-in-Err-clause-walked
 returns-in-Err-clause-walked g c place walked =

@@ -1,5 +1,5 @@
-use Rattle.spaces.proofs.Names.{ℕ, Option, refl, ◌/◌, ◌≡◌, true, sym, subst, ◌∙◌, arith, rules, attr_at, picture_of, page_count, is_covered, Dontneed, ENOMEM, Attr, Done, Refused}
-use Rattle.spaces.{specs.{Calls.{Comes}, Ranges.{EmptiesRange, GivesPagesBack}}, proofs.{Uncopied.{covered_within, refused_hole, gives_up}, Room.{room_same, sound_kept}, Returning.{no_page, takes_cleared}}}
+use Rattle.spaces.proofs.Names.{refl, ◌/◌, ◌≡◌, sym, ◌∙◌, arith, rules, attr_at, picture_of, page_count}
+use Rattle.spaces.{proofs.{Uncopied.{covered_within, refused_hole, gives_up}, Room.{marks_cached, room_same, sound_kept}, Returning.{no_page, takes_cleared}}}
 use Rattle.spaces.proofs.madvise.dontneed.Goals as goal
 
 pub clear_row-requires-clause-row : goal.clear_row-requires-clause-row
@@ -30,7 +30,7 @@ returns-clause-keeps g c =
     let new = c.clear_row.new.core in
     let cleared = c.clear_row.ensures in
     let room = room_same old new cleared.rest.cache in
-    let sound = sound_kept old new room g.D.SectorDisk g.E.SectorDisk cleared.rest.store cleared.rest.pages cleared.fit c.requires.sound in
+    let sound = sound_kept old new g.D.SectorDisk g.E.SectorDisk room cleared.rest.store cleared.rest.pages cleared.fit (marks_cached old new cleared.rest.cache) c.requires.sound in
     let takes = takes_cleared old new c.in-Some.pid 0 0 c.requires.sound.fit cleared.fit cleared.rest.roots cleared.tables cleared.rest.cache cleared.others in
     rw (← c.in-Some.ensures.found.0) (search rules)
 

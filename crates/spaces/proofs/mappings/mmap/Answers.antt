@@ -1,5 +1,5 @@
-use Rattle.spaces.proofs.Names.{sizes, ℕ, ◌*◌, ◌/◌, ◌≡◌, Option, refl, sym, subst, arith, rules, attr_at, KeepsRoom, picture_of, Mmap, Attr, Address, Refused, replaced, page_count}
-use Rattle.spaces.specs.{Mappings.{attr_there, mmap_asked_checks}, Calls.{Comes}, Ranges.{EmptiesRange, GivesPagesBack}}
+use Rattle.spaces.proofs.Names.{sizes, ◌*◌, ◌/◌, ◌≡◌, File, refl, sym, ◌∙◌, arith, rules, attr_at, KeepsRoom, picture_of, page_count}
+use Rattle.spaces.specs.{Mappings.{mmap_asked_checks}}
 use Rattle.spaces.proofs.{Mapped.{refused_as_asked, refused_place, maps, reads_mapped}, Calls.{found_lives}, Numbers.{nobody_has, lives_below}, NewObject.{new_unused, objects_mapped}, Room.{sound_kept}, Checks.{first_of-other}, Returning.{returns_refused, takes_remapped}}
 use Rattle.spaces.proofs.mappings.mmap.Goals as goal
 
@@ -66,7 +66,7 @@ returns-in-Ok-clause-keeps g c =
     let place : first ≡ first * 4096 / 4096 = omega arith in
     let done = c.remap.ensures in
     let room : KeepsRoom (picture_of old) (picture_of new) = record { frames = done.frames; slots = done.slots.total } in
-    let sound = sound_kept old new room g.D.SectorDisk g.E.SectorDisk done.devices.store done.devices.pages done.fit c.requires.sound in
+    let sound = sound_kept old new g.D.SectorDisk g.E.SectorDisk room done.devices.store done.devices.pages done.fit (λ p touched. done.files.touched (File p) tt ∙ touched) c.requires.sound in
     let takes = takes_remapped old new pid first c.div_ceil-pages.result c.requires.sound.fit done.fit done.roots done.tables done.files done.others in
     rw (← c.in-Some.ensures.found.0) (rw (← place) (rw (← count) (search rules)))
 

@@ -1,4 +1,4 @@
-use Rattle.spaces.{proofs.{Living.{exits}, Names.{user_end, Exit, Done, ℕ, rules, subst, picture_of}, Returning.{takes_named}, Room.{sound_kept}}, specs.{Calls.{Comes}, Ranges.{GivesPagesBack}}}
+use Rattle.spaces.{proofs.{Living.{exits}, Names.{user_end, File, ◌∙◌, rules, picture_of}, Returning.{takes_named}, Room.{sound_kept}}}
 use Rattle.spaces.proofs.processes.exit.Goals as goal
 
 pub returns-clause-comes : goal.returns-clause-comes
@@ -12,6 +12,6 @@ returns-clause-keeps g c =
     let new = c.exit.new.core in
     let ends = c.exit.ensures in
     let end = user_end g.M.Levels.mode in
-    let sound = sound_kept old new ends.room g.D.SectorDisk g.E.SectorDisk ends.devices.store ends.devices.pages ends.fit c.requires.sound in
+    let sound = sound_kept old new g.D.SectorDisk g.E.SectorDisk ends.room ends.devices.store ends.devices.pages ends.fit (λ p touched. ends.files.touched (File p) tt ∙ touched) c.requires.sound in
     let takes = takes_named (picture_of old) (picture_of new) c.in-Some.pid 0 end ends.frames ends.files ends.others in
     rw (← c.in-Some.ensures.found.0) (search rules)

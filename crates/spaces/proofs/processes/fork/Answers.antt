@@ -1,5 +1,5 @@
-use Rattle.spaces.proofs.Names.{ℕ, None, refl, subst, rules, Nothing, asks_slots_same, picture_of, Fork, Process, Stalled}
-use Rattle.spaces.{specs.Calls.{Comes}, proofs.{Taking.{forked_takes, fork_stalled_takes}, Calls.{found_lives}, Living.{fork_refused, forks_to, fork_stalls, store_kept_caused, came}}}
+use Rattle.spaces.proofs.Names.{None, refl, Nothing, asks_slots_same, picture_of}
+use Rattle.spaces.{proofs.{Taking.{forked_takes, fork_stalled_takes}, Calls.{found_lives}, Living.{fork_refused, forks_to, fork_stalls, came, stayed}}}
 use Rattle.spaces.proofs.processes.fork.Goals as goal
 
 pub returns-in_default-free_pid-clause-comes : goal.returns-in_default-free_pid-clause-comes
@@ -24,9 +24,7 @@ returns-in-Err-clause-comes g c = λ s shows reads swaps.
 
 pub returns-in-Err-clause-keeps : goal.returns-in-Err-clause-keeps
 returns-in-Err-clause-keeps g c =
-    let said = c.fork.ensures in
-    let caused = store_kept_caused g.D.SectorDisk g.E.SectorDisk c.args.core.now c.fork.new.core c.in-Err.stall said.store said.device.later c.in-Err.ensures.cause in
-    search rules
+    stayed g.D.SectorDisk g.E.SectorDisk c.args.core.now c.fork.new.core _ c.requires.sound c.fork.ensures.keeps c.in-Err.stall c.in-Err.ensures.cause
 
 pub returns-in-Ok-clause-takes : goal.returns-in-Ok-clause-takes
 returns-in-Ok-clause-takes g c =
@@ -45,7 +43,7 @@ pub returns-in_default-free_pid-clause-asks : goal.returns-in_default-free_pid-c
 returns-in_default-free_pid-clause-asks g c = asks_slots_same g.E.SectorDisk c.args.core.now c.args.core.now None Nothing refl
 
 pub returns-in-Ok-clause-keeps : goal.returns-in-Ok-clause-keeps
-returns-in-Ok-clause-keeps g c = came g.D.SectorDisk g.E.SectorDisk c.args.core.now c.fork.new.core c.in-Some-free_pid.child _ c.requires.sound c.fork.ensures.keeps c.in-Ok.ensures.cause
+returns-in-Ok-clause-keeps g c = came g.D.SectorDisk g.E.SectorDisk c.args.core.now c.fork.new.core _ c.requires.sound c.fork.ensures.keeps c.in-Some-free_pid.child c.in-Ok.ensures.cause
 
 pub returns-in-Ok-clause-asks : goal.returns-in-Ok-clause-asks
 returns-in-Ok-clause-asks g c = c.fork.ensures.asks

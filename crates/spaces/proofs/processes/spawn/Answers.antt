@@ -1,4 +1,4 @@
-use Rattle.spaces.proofs.{Living.{spawn_refused, spawns, spawn_stalls, store_kept_caused, came}, Names.{None, refl, rules, Nothing, asks_slots_same, picture_of}, Taking.{spawned_takes, spawn_stalled_takes}}
+use Rattle.spaces.proofs.{Living.{spawn_refused, spawns, spawn_stalls, came, stayed}, Names.{None, refl, Nothing, asks_slots_same, picture_of}, Taking.{spawned_takes, spawn_stalled_takes}}
 use Rattle.spaces.proofs.processes.spawn.Goals as goal
 
 pub returns-in_default-clause-comes : goal.returns-in_default-clause-comes
@@ -17,9 +17,7 @@ returns-in-Err-clause-comes g c = λ s shows reads swaps.
 
 pub returns-in-Err-clause-keeps : goal.returns-in-Err-clause-keeps
 returns-in-Err-clause-keeps g c =
-    let said = c.spawn.ensures in
-    let caused = store_kept_caused g.D.SectorDisk g.E.SectorDisk c.args.core.now c.spawn.new.core c.in-Err.stall said.store said.device.later c.in-Err.ensures.cause in
-    search rules
+    stayed g.D.SectorDisk g.E.SectorDisk c.args.core.now c.spawn.new.core _ c.requires.sound c.spawn.ensures.keeps c.in-Err.stall c.in-Err.ensures.cause
 
 pub returns-in-Ok-clause-takes : goal.returns-in-Ok-clause-takes
 returns-in-Ok-clause-takes g c = spawned_takes (picture_of c.args.core.now) (picture_of c.spawn.new.core) c.in-Some.pid c.in-Ok.ensures.taken c.in-Ok.ensures.gives
@@ -33,7 +31,7 @@ pub returns-in_default-clause-asks : goal.returns-in_default-clause-asks
 returns-in_default-clause-asks g c = asks_slots_same g.E.SectorDisk c.args.core.now c.args.core.now None Nothing refl
 
 pub returns-in-Ok-clause-keeps : goal.returns-in-Ok-clause-keeps
-returns-in-Ok-clause-keeps g c = came g.D.SectorDisk g.E.SectorDisk c.args.core.now c.spawn.new.core c.in-Some.pid _ c.requires.sound c.spawn.ensures.keeps c.in-Ok.ensures.cause
+returns-in-Ok-clause-keeps g c = came g.D.SectorDisk g.E.SectorDisk c.args.core.now c.spawn.new.core _ c.requires.sound c.spawn.ensures.keeps c.in-Some.pid c.in-Ok.ensures.cause
 
 pub returns-in-Ok-clause-asks : goal.returns-in-Ok-clause-asks
 returns-in-Ok-clause-asks g c = c.spawn.ensures.asks

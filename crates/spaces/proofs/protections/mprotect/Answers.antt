@@ -1,5 +1,5 @@
-use Rattle.spaces.proofs.Names.{ℕ, ◌/◌, ◌≡◌, refl, sym, ap, subst, arith, rules, Swap, attr_at, ReadsToo, reads_kept, ReprotectsRow, picture_of, Mprotect, Prot, Done, Refused, page_count, protected}
-use Rattle.spaces.{specs.{Calls.{Comes}, Ranges.{GivesPagesBack, PermitsRange}}, proofs.{Protects.{refuses, protects, protected_map}, Room.{room_same, sound_kept}, Returning.{no_page, takes_rewritten}}}
+use Rattle.spaces.proofs.Names.{◌/◌, ◌≡◌, refl, ap, arith, rules, Swap, reads_kept, picture_of, page_count}
+use Rattle.spaces.{proofs.{Protects.{refuses, protects, protected_map}, Room.{marks_cached, room_same, sound_kept}, Returning.{no_page, takes_rewritten}}}
 use Rattle.spaces.proofs.protections.mprotect.Goals as goal
 
 pub reprotect-requires-clause-reads : goal.reprotect-requires-clause-reads
@@ -32,7 +32,7 @@ returns-in-Ok-clause-keeps g c =
     let new = c.reprotect.new.core in
     let done = c.reprotect.ensures in
     let pages = ap (λ (s : Swap _). s.pages) done.swap in
-    let sound = sound_kept old new (room_same old new done.cache) g.D.SectorDisk g.E.SectorDisk done.store pages done.fit c.requires.sound in
+    let sound = sound_kept old new g.D.SectorDisk g.E.SectorDisk (room_same old new done.cache) done.store pages done.fit (marks_cached old new done.cache) c.requires.sound in
     let takes = takes_rewritten old new c.in-Some.pid 0 0 done.frames done.cache done.others in
     rw (← c.in-Some.ensures.found.0) (search rules)
 

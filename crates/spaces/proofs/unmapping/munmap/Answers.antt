@@ -1,5 +1,5 @@
-use Rattle.spaces.proofs.Names.{ℕ, ◌+◌, ◌-◌, ◌/◌, ◌≡◌, min, sym, ap, ◌∙◌, subst, arith, rules, attr_at, reads_removed, reads_same, KeepsRoom, without_maps, KeepsNamed, picture_of, Munmap, ENOMEM, Done, Refused, page_count, removed, Maps}
-use Rattle.spaces.{specs.{Calls.{Comes}, Ranges.{GivesPagesBack, KeepsEntriesBeside}}, proofs.{Unmapped.{beside_part, clipped, objects_unmapped, others_stay, refused_many, unmaps}, Room.{sound_kept}, Returning.{takes_remapped}}}
+use Rattle.spaces.proofs.Names.{ℕ, ◌+◌, ◌-◌, ◌/◌, ◌≡◌, min, File, ap, ◌∙◌, arith, rules, attr_at, reads_removed, reads_same, KeepsRoom, without_maps, picture_of, page_count, removed}
+use Rattle.spaces.{proofs.{Unmapped.{beside_part, clipped, objects_unmapped, others_stay, refused_many, unmaps}, Room.{sound_kept}, Returning.{takes_remapped}}}
 use Rattle.spaces.proofs.unmapping.munmap.Goals as goal
 
 pub remap-requires-clause-others : goal.remap-requires-clause-others
@@ -61,7 +61,7 @@ returns-in-Ok-clause-keeps g c =
     (picture_of old) pid (c.requires.sound.fit.granting.user pid) in
     let done = c.remap.ensures in
     let room : KeepsRoom (picture_of old) (picture_of new) = record { frames = done.frames; slots = done.slots.total } in
-    let sound = sound_kept old new room g.D.SectorDisk g.E.SectorDisk done.devices.store done.devices.pages done.fit c.requires.sound in
+    let sound = sound_kept old new g.D.SectorDisk g.E.SectorDisk room done.devices.store done.devices.pages done.fit (λ p touched. done.files.touched (File p) tt ∙ touched) c.requires.sound in
     let takes = takes_remapped old new pid first pages c.requires.sound.fit done.fit done.roots done.tables
     (rw row done.files) done.others in
     rw (← c.in-Some.ensures.found.0) (rw (← count) (search rules))

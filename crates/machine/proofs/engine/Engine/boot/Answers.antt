@@ -1,7 +1,6 @@
-use Rattle.machine.proofs.{Boots.{fine_frames, fine_slots, sized_at_start, still, boots, accepts, refuses_frames, refuses_slots, refuses_memory, refuses_store}, Names.{inl, inr, ⊎_elim, refl, sym, ap, ◌∙◌, subst, arith, rules}}
-use Rattle.stores.specs.{Store.{always_free_in, kept_of}, declared.store.Store.{Store}}
+use Rattle.machine.proofs.{Boots.{fine_frames, fine_slots, sized_at_start, sound_at_start, still, boots, accepts, refuses_frames, refuses_slots, refuses_memory, refuses_store}, Names.{inl, inr, ⊎_elim, refl, sym, ap, ◌∙◌, subst, arith}}
 use Rattle.machine.{proofs.engine.Engine.boot.Goals.{then-config-gt-MAX_SLOTS-via-then-config-gt-MAX_SLOTS, then-config-gt-MAX_SLOTS-via-else-config-gt-MAX_SLOTS+then-from-sectors}, specs.{Boot.{HasBadSlots}, StoreBoot.{BootsStore}}}
-use Rattle.swap.specs.declared.slots.Swap.{Swap}
+use Rattle.swap.specs.{Slots.{IsReady}, declared.slots.Swap.{Swap}}
 use Rattle.machine.proofs.engine.Engine.boot.Goals as goal
 
 pub returns-then-config-lt-MIN_FRAMES-clause-refuses : goal.returns-then-config-lt-MIN_FRAMES-clause-refuses
@@ -32,51 +31,52 @@ returns-in-Err-clause-err_moments g c = c.in-Err.ensures.leaves
 
 pub returns-in_default-clause-refuses : goal.returns-in_default-clause-refuses
 returns-in_default-clause-refuses g c =
-    rw c.into_disk.ensures (refuses_memory g.D.SectorDisk c.args.config _ c.args.store c.in-Ok.store (fine_frames c.args.config c.if-config-lt-MIN_FRAMES.false c.if-config-gt-MAX_FRAMES.false)
+    rw c.device_of.ensures (refuses_memory g.D.SectorDisk c.args.config _ c.args.store c.in-Ok.store (fine_frames c.args.config c.if-config-lt-MIN_FRAMES.false c.if-config-gt-MAX_FRAMES.false)
     (fine_slots c.args.config _ _ _ c.if-config-gt-MAX_SLOTS.false c.from.ensures c.sectors.ensures c.if-from-sectors.false) c.in-Ok.ensures)
 
 pub returns-in_default-clause-err_moments : goal.returns-in_default-clause-err_moments
-returns-in_default-clause-err_moments g c = rw c.into_disk.ensures c.in-Ok.ensures.leaves
+returns-in_default-clause-err_moments g c = rw c.device_of.ensures c.in-Ok.ensures.leaves
 
 pub returns-in_default-new-clause-refuses : goal.returns-in_default-new-clause-refuses
 returns-in_default-new-clause-refuses g c =
-    rw c.into_disk-in_default-new.ensures (refuses_memory g.D.SectorDisk c.args.config _ c.args.store c.in-Ok.store (fine_frames c.args.config c.if-config-lt-MIN_FRAMES.false c.if-config-gt-MAX_FRAMES.false)
+    rw c.device_of-in_default-new.ensures (refuses_memory g.D.SectorDisk c.args.config _ c.args.store c.in-Ok.store (fine_frames c.args.config c.if-config-lt-MIN_FRAMES.false c.if-config-gt-MAX_FRAMES.false)
     (fine_slots c.args.config _ _ _ c.if-config-gt-MAX_SLOTS.false c.from.ensures c.sectors.ensures c.if-from-sectors.false) c.in-Ok.ensures)
 
 pub returns-in_default-new-clause-err_moments : goal.returns-in_default-new-clause-err_moments
-returns-in_default-new-clause-err_moments g c = rw c.into_disk-in_default-new.ensures c.in-Ok.ensures.leaves
+returns-in_default-new-clause-err_moments g c = rw c.device_of-in_default-new.ensures c.in-Ok.ensures.leaves
 
 pub returns-in_default-new-2-clause-refuses : goal.returns-in_default-new-2-clause-refuses
 returns-in_default-new-2-clause-refuses g c =
-    rw c.into_disk-in_default-new-2.ensures (refuses_memory g.D.SectorDisk c.args.config _ c.args.store c.in-Ok.store (fine_frames c.args.config c.if-config-lt-MIN_FRAMES.false c.if-config-gt-MAX_FRAMES.false)
+    rw c.device_of-in_default-new-2.ensures (refuses_memory g.D.SectorDisk c.args.config _ c.args.store c.in-Ok.store (fine_frames c.args.config c.if-config-lt-MIN_FRAMES.false c.if-config-gt-MAX_FRAMES.false)
     (fine_slots c.args.config _ _ _ c.if-config-gt-MAX_SLOTS.false c.from.ensures c.sectors.ensures c.if-from-sectors.false) c.in-Ok.ensures)
 
 pub returns-in_default-new-2-clause-err_moments : goal.returns-in_default-new-2-clause-err_moments
-returns-in_default-new-2-clause-err_moments g c = rw c.into_disk-in_default-new-2.ensures c.in-Ok.ensures.leaves
+returns-in_default-new-2-clause-err_moments g c = rw c.device_of-in_default-new-2.ensures c.in-Ok.ensures.leaves
 
 pub returns-in-Err-new-clause-refuses : goal.returns-in-Err-new-clause-refuses
 returns-in-Err-new-clause-refuses g c =
-    rw (c.into_disk-in-Err-new.ensures, c.in-Err-new.ensures.err) (refuses_memory g.D.SectorDisk c.args.config _ c.args.store c.in-Ok.store (fine_frames c.args.config c.if-config-lt-MIN_FRAMES.false c.if-config-gt-MAX_FRAMES.false)
+    rw (c.device_of-in-Err-new.ensures, c.in-Err-new.ensures.err) (refuses_memory g.D.SectorDisk c.args.config _ c.args.store c.in-Ok.store (fine_frames c.args.config c.if-config-lt-MIN_FRAMES.false c.if-config-gt-MAX_FRAMES.false)
     (fine_slots c.args.config _ _ _ c.if-config-gt-MAX_SLOTS.false c.from.ensures c.sectors.ensures c.if-from-sectors.false) c.in-Ok.ensures)
 
 pub returns-in-Err-new-clause-err_moments : goal.returns-in-Err-new-clause-err_moments
-returns-in-Err-new-clause-err_moments g c = rw (c.into_disk-in-Err-new.ensures, c.in-Err-new.ensures.err) c.in-Ok.ensures.leaves
+returns-in-Err-new-clause-err_moments g c = rw (c.device_of-in-Err-new.ensures, c.in-Err-new.ensures.err) c.in-Ok.ensures.leaves
 
 pub returns-in-Ok-new-4-clause-sound : goal.returns-in-Ok-new-4-clause-sound
 returns-in-Ok-new-4-clause-sound g c =
     let made = c.in-Ok-new-4.ensures in
     record {
-      room = sized_at_start g.D.SectorDisk g.E.SectorDisk c.in-Ok-new-4.core c.in-Ok-new-3.sync_room c.always_free_pages.result c.args.config.frames c.args.config.slots c.in-Ok-new-3.ensures
-          (c.always_free_pages.ensures ∙ ap (λ (store : Store _). always_free_in (kept_of store)) (sym made.store)) made.start;
-      going = λ _. search rules;
+      room = sized_at_start g.D.SectorDisk g.E.SectorDisk c.in-Ok-new-4.core c.in-Ok.store c.in-Ok-new-3.sync_room c.always_free_pages-most.result c.len.result c.args.config.frames c.args.config.slots
+          made.store c.in-Ok-new-3.ensures c.always_free_pages-most.ensures (c.len.ensures ∙ c.in-Ok.store.sizes.ok.0) made.start;
+      going = λ _. sound_at_start g.D.SectorDisk g.E.SectorDisk c.args.store c.in-Ok.store c.in-Ok-new-4.core made.store c.in-Ok.ensures
+          (subst (λ device. IsReady g.E.SectorDisk device) (sym made.swap) c.in-Ok-new-2.ensures.ready) made.fit;
     }
 
 pub returns-in-Ok-new-4-clause-boots : goal.returns-in-Ok-new-4-clause-boots
 returns-in-Ok-new-4-clause-boots g c =
     let made = c.in-Ok-new-4.ensures in
-    let always = c.always_free_pages.ensures ∙ ap (λ (store : Store _). always_free_in (kept_of store)) (sym made.store) in
     boots g.D.SectorDisk g.E.SectorDisk c.args.store _ c.args.config.frames c.args.config.slots refl c.in-Ok-new.ensures
-    (sized_at_start g.D.SectorDisk g.E.SectorDisk c.in-Ok-new-4.core c.in-Ok-new-3.sync_room c.always_free_pages.result c.args.config.frames c.args.config.slots c.in-Ok-new-3.ensures always made.start)
+    (sized_at_start g.D.SectorDisk g.E.SectorDisk c.in-Ok-new-4.core c.in-Ok.store c.in-Ok-new-3.sync_room c.always_free_pages-most.result c.len.result c.args.config.frames c.args.config.slots
+    made.store c.in-Ok-new-3.ensures c.always_free_pages-most.ensures (c.len.ensures ∙ c.in-Ok.store.sizes.ok.0) made.start)
     (subst (λ store. BootsStore g.D.SectorDisk c.args.store store) (sym made.store) c.in-Ok.ensures) made.start
 
 pub returns-in-Ok-new-4-clause-accepts : goal.returns-in-Ok-new-4-clause-accepts

@@ -1,4 +1,4 @@
-use Rattle.machine.proofs.{Accesses.{refused_so}, Causes.{msync_caused}, Commits.{msync_meets}, Flat.{room_still}, Names.{◌≡◌, true, false, rules, sym, ap, subst, ◌∙◌, picture_of, KeepsRoom, EIO, reply_of}}
+use Rattle.machine.proofs.{Accesses.{refused_so}, Causes.{msync_caused}, Commits.{msync_meets}, Flat.{room_still}, Names.{◌≡◌, true, false, rules, inl, inr, ⊎_elim, refl, sym, ap, subst, ◌∙◌, picture_of, KeepsRoom, EIO, reply_of}}
 use Rattle.{msync.specs.Shows.{HasSyncRoom}, vm_types.specs.declared.reply.Answer.TheVariants.{Refused}}
 use Rattle.machine.proofs.engine.Engine.msync.Goals as goal
 
@@ -12,14 +12,14 @@ returns g c =
     let sizes : KeepsRoom (picture_of c.args.self.now.core) (picture_of c.msync-answer.new.core) = record { frames = e.frames; slots = e.slots } in
     record {
       does = record {
-        sound = record { going = λ r. e.ready (is_not r); room = still (room_still g.D.SectorDisk g.E.SectorDisk c.args.self.now.core c.msync-answer.new.core _ e.always sizes c.requires.room) };
+        sound = record { going = λ r. e.ready (is_not r); room = still (room_still g.D.SectorDisk g.E.SectorDisk c.args.self.now.core c.msync-answer.new.core _ e.always e.places sizes c.requires.room) };
         keeps = record { kept = e.kept; swap_kept = e.device.kept; room = sizes };
         caused =
             msync_caused g.D.SectorDisk g.E.SectorDisk c.args.self.now.core c.msync-answer.new.core c.msync-answer.result
             e.later e.device.later e.cause e.calm e.stalled e.still e.refused;
         accesses = (e.memory, e.asks);
         denied = record {
-          refused = λ errno is other. e.unasked errno (refused_so c.msync-answer.result errno is) other;
+          refused = λ errno is other. ⊎_elim (λ same. inl same) (λ lacks. inr (refl, lacks.0, lacks.1)) (e.unasked errno (refused_so c.msync-answer.result errno is) other);
           faulted = λ other. absurd (let never : true ≡ false = other in cc);
           halted = λ stopped. absurd (let never : false ≡ true = sym c.requires.running ∙ stopped in cc);
         };
