@@ -1,12 +1,12 @@
 //! What the tests share: a trace over an image of files, and a run of it with a fault. No other file here makes a machine.
 use crate::fillings::{EACH, FILLINGS, OLD, OPEN};
-use crate::judge::{Judge, heard};
+use crate::judge::{Held, Judge, heard};
 use crate::short_disk::ShortDisk;
 use disk_model::SimDisk;
 use file_store::FileSource;
 use machine::{BootFault, Config};
 use runner::{Devices, RunEnd, run_on};
-use std::alloc::Global;
+use std::alloc::{AllocError, Global};
 use std::process::Abort;
 use stores::{NewStore, OpenFault, Store, format};
 
@@ -35,6 +35,8 @@ impl Armed {
 pub(crate) struct Case<'a> {
     pub config: Config,
     pub lengths: &'a [u32],
+    /// Homes behind those of the files. The file of an image that has one alone gets them in their order, as it grows.
+    pub spare: u64,
     pub store: NewStore,
     /// The writes of the store's gate that each msync ends with, the first write being 1.
     pub gates: &'a [u64],
@@ -56,11 +58,36 @@ pub(crate) fn expect(rt: &impl Abort, holds: bool, otherwise: &str) {
     assert!(rt; holds, "{otherwise}");
 }
 
-/// Why the store of an image was not opened, if so, and its device.
-pub(crate) fn tried(alloc: Global, image: ShortDisk) -> (Option<OpenFault>, ShortDisk) {
+/// Why the store of an image was not opened, if so, how long its first two files are, and its device.
+#[derive(Drop)]
+pub(crate) struct Opened {
+    pub fault: Option<OpenFault>,
+    lengths: [Option<u64>; 2],
+    pub disk: ShortDisk,
+}
+
+impl Opened {
+    /// Whether the store was opened, and its files hold what is wanted.
+    pub(crate) fn holds(&self, alloc: Global, wanted: &Held) -> Result<bool, AllocError> {
+        let pages = self.disk.homes(alloc)?;
+        let is_open = self.fault.is_none() && self.lengths == wanted.lengths;
+        Ok(is_open && pages.as_slice().starts_with(wanted.pages.as_slice()))
+    }
+}
+
+/// Opens the store of an image.
+pub(crate) fn tried(alloc: Global, image: ShortDisk) -> Opened {
     match Store::open(alloc, image) {
-        Ok(store) => (None, store.into_disk()),
-        Err((fault, disk)) => (Some(fault), disk),
+        Ok(store) => Opened {
+            fault: None,
+            lengths: [0, 1].map(|file| store.file(file).map(|info| info.length)),
+            disk: store.into_disk(),
+        },
+        Err((fault, disk)) => Opened {
+            fault: Some(fault),
+            lengths: [None; 2],
+            disk,
+        },
     }
 }
 
@@ -68,7 +95,7 @@ impl Case<'_> {
     /// The image before the trace.
     pub(crate) fn image(&self, rt: &(impl AllocGlobal + Abort)) -> ShortDisk {
         let mut files: Vec<FileSource<&[u8]>> = Vec::new(rt.alloc());
-        let mut homes: u64 = 0;
+        let mut homes = self.spare;
         for length in self.lengths {
             homes = homes.saturating_add(u64::from(length.div_ceil(4096)));
             files
@@ -120,7 +147,7 @@ impl Case<'_> {
         }
     }
 
-    /// What the homes hold once the store was opened that a run left, with that filling of its unsynced sectors: that is what the
+    /// What the files hold once the store was opened that a run left, with that filling of its unsynced sectors: that is what the
     /// judge says, with an msync that failed only where the gate's sector is filled with what says that it is done. The two maps of a pool
     /// are named in turn: the second by what opens a gate, and the first by other bytes, of which the old ones are none.
     pub(crate) fn standing(
@@ -129,7 +156,7 @@ impl Case<'_> {
         told: &Told,
         judge: &Judge,
         filling: usize,
-    ) -> Vec<u8> {
+    ) -> Held {
         let write = told.store.disk.writes();
         let at_gate = self.gates.get(judge.synced) == Some(&write);
         let is_named = match self.store {
@@ -139,12 +166,11 @@ impl Case<'_> {
         let is_done = at_gate && is_named;
         let wanted = match &judge.before {
             Some(before) if !is_done => before.clone().expect(rt, "memory"),
-            _ => judge.flat.durable(rt.alloc()).expect(rt, "memory"),
+            _ => Held::new(rt.alloc(), &judge.flat).expect(rt, "memory"),
         };
         let left = told.store.left(rt.alloc(), FILLINGS[filling % 5]);
-        let (fault, left) = tried(rt.alloc(), left.expect(rt, "memory"));
-        let found = left.homes(rt.alloc()).expect(rt, "memory");
-        let is_same = fault.is_none() && found.as_slice() == wanted.as_slice();
+        let opened = tried(rt.alloc(), left.expect(rt, "memory"));
+        let is_same = opened.holds(rt.alloc(), &wanted).expect(rt, "memory");
         assert!(rt; is_same, "write {write}, filling {filling}: other files");
         wanted
     }

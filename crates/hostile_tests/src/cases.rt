@@ -23,23 +23,25 @@ const SMALL: Config = Config {
     mode: Mode::Sv39,
 };
 
-/// A file whose last page is a part of one: what is stored past its end is gone with the msync.
+/// A file whose last page is a part of one: what is stored past its end is gone with the msync. A journal's file keeps its length.
 pub(crate) const PARTIAL_PAGE: Case<'static> = Case {
     config: CONFIG,
     lengths: &[5000],
+    spare: 0,
     store: JOURNAL,
     gates: &[17],
     trace: b"spawn\nmmap 1 0 12288 rw- shared 0 0\nstore 1 0x11387 1 0xaa\nload 1 0x11388 1\n\
 store 1 0x11388 1 0xbb\nload 1 0x11388 1\nload 1 0x12000 1\nmsync 1 0x10000 12288 sync\nload 1 0x11388 1\n\
-load 1 0x11387 1\n",
+load 1 0x11387 1\ntruncate 0 4096\n",
     replies: b"pid 1\naddr 0x10000\nok\nvalue 0x00\nok\nvalue 0xbb\nfault 13 BUS_ADRERR 0x12000\nok\nvalue 0x00\n\
-value 0xaa\n",
+value 0xaa\nerror 22 EINVAL\n",
 };
 
 /// A byte of a page is made durable, and then a second one.
 pub(crate) const ONE_PAGE: Case<'static> = Case {
     config: CONFIG,
     lengths: &[4096],
+    spare: 0,
     store: JOURNAL,
     gates: &[17, 43],
     trace: b"spawn\nmmap 1 0 4096 rw- shared 0 0\nstore 1 0x10000 1 0x5a\nmsync 1 0x10000 4096 sync\n\
@@ -59,6 +61,7 @@ pub(crate) const ONE_PAGE_IN_A_POOL: Case<'static> = Case {
 pub(crate) const TWO_PAGES_IN_A_POOL: Case<'static> = Case {
     config: CONFIG,
     lengths: &[8192],
+    spare: 0,
     store: POOL,
     gates: &[17, 34, 51],
     trace: b"spawn\nmmap 1 0 0x2000 rw- shared 0 0\nstore 1 0x10000 1 1\nmsync 1 0x10000 0x2000 sync\n\
@@ -66,10 +69,27 @@ store 1 0x11000 1 2\nmsync 1 0x10000 0x2000 sync\nstore 1 0x10001 1 3\nmsync 1 0
     replies: b"pid 1\naddr 0x10000\nok\nok\nok\nok\nok\nok\n",
 };
 
+/// A file is cut within a page and grows, and an msync makes the length durable with two pages, and zeros behind them. Then it is cut to the length that it had,
+/// which an msync of a page past its end makes durable. The first one writes two new pages of zeros, those two pages and one of the directory, and a block of the
+/// map, and the second one a page of the directory and a block of the map.
+pub(crate) const OTHER_LENGTHS: Case<'static> = Case {
+    config: CONFIG,
+    lengths: &[5000],
+    spare: 2,
+    store: POOL,
+    gates: &[49, 66],
+    trace: b"spawn\nmmap 1 0 0x4000 rw- shared 0 0\nstore 1 0x11387 1 0xaa\ntruncate 0 4999\ntruncate 0 12289\n\
+load 1 0x11387 1\nstore 1 0x12000 1 0xbb\nmsync 1 0x10000 0x1000 sync\nload 1 0x13000 1\ntruncate 0 5000\n\
+load 1 0x12000 1\nmsync 1 0x12000 0x1000 sync\ntruncate 0 4398046511105\ntruncate 1 0\n",
+    replies: b"pid 1\naddr 0x10000\nok\nok\nok\nvalue 0x00\nok\nok\nvalue 0x00\nok\nfault 13 BUS_ADRERR 0x12000\n\
+ok\nerror 27 EFBIG\nerror 9 EBADF\n",
+};
+
 /// Maps two files of a page each, and makes a byte of both durable.
 pub(crate) const TWO_FILES: Case<'static> = Case {
     config: CONFIG,
     lengths: &[4096, 4096],
+    spare: 0,
     store: JOURNAL,
     gates: &[25],
     trace: b"spawn\nmmap 1 0 0x1000 rw- shared 0 0\nmmap 1 0 0x1000 rw- shared 1 0\nstore 1 0x10000 1 1\n\
@@ -81,6 +101,7 @@ store 1 0x11000 1 2\nmsync 1 0x10000 0x2000 sync\n",
 pub(crate) const TWO_FILES_TWICE: Case<'static> = Case {
     config: CONFIG,
     lengths: &[4096, 4096],
+    spare: 0,
     store: JOURNAL,
     gates: &[25, 67],
     trace: b"spawn\nmmap 1 0 0x1000 rw- shared 0 0\nmmap 1 0 0x1000 rw- shared 1 0\nstore 1 0x10000 1 1\n\
@@ -93,6 +114,7 @@ msync 1 0x10000 0x2000 sync\n",
 pub(crate) const TWO_PROCESSES: Case<'static> = Case {
     config: CONFIG,
     lengths: &[4096],
+    spare: 0,
     store: JOURNAL,
     gates: &[17, 43],
     trace: b"spawn\nspawn\nmmap 1 0 4096 rw- shared 0 0\nmmap 2 0 4096 rw- shared 0 0\nstore 1 0x10000 1 0x0a\n\
@@ -104,6 +126,7 @@ store 2 0x10001 1 0x0b\nmsync 1 0x10000 4096 sync\nstore 2 0x10001 1 0x0c\nmsync
 pub(crate) const PAGES_IN_SLOTS: Case<'static> = Case {
     config: SMALL,
     lengths: &[32768],
+    spare: 0,
     store: JOURNAL,
     gates: &[73],
     trace: b"spawn\nmmap 1 0 0x8000 rw- shared 0 0\nstore 1 0x10000 1 1\nstore 1 0x11000 1 2\n\
@@ -122,6 +145,7 @@ pub(crate) const PAGE_IN_THE_JOURNAL: Case<'static> = Case {
         mode: Mode::Sv39,
     },
     lengths: &[40960],
+    spare: 0,
     store: JOURNAL,
     gates: &[17, 43],
     trace: b"spawn\nmmap 1 0 0xa000 rw- shared 0 0\nstore 1 0x10000 1 7\nmsync 1 0x10000 0x1000 sync\n\
@@ -136,6 +160,7 @@ value 0x00\nvalue 0x00\nvalue 0x00\nvalue 0x07\nok\nok\n",
 pub(crate) const HALTING: Case<'static> = Case {
     config: CONFIG,
     lengths: &[4096],
+    spare: 0,
     store: JOURNAL,
     gates: &[17],
     trace: b"spawn\nmmap 1 0 4096 rw- shared 0 0\nstore 1 0x10000 1 9\nmsync 1 0x10000 4096 sync\n\
@@ -147,6 +172,7 @@ load 1 0x10000 1\nfaults\n",
 pub(crate) const OWN_PAGES: Case<'static> = Case {
     config: SMALL,
     lengths: &[],
+    spare: 0,
     store: JOURNAL,
     gates: &[],
     trace: b"spawn\nmmap 1 0 0x10000 rw- anon\nstore 1 0x10000 1 1\nstore 1 0x11000 1 2\nstore 1 0x12000 1 3\n\
@@ -171,6 +197,7 @@ pub(crate) const SHARED_COPY: Case<'static> = Case {
         mode: Mode::Sv39,
     },
     lengths: &[],
+    spare: 0,
     store: JOURNAL,
     gates: &[],
     trace: b"spawn\nmmap 1 0 0x6000 rw- anon\nstore 1 0x10000 1 0x11\nfork 1\nstore 1 0x11000 1 0x21\n\
@@ -187,6 +214,7 @@ pub(crate) const OBJECT_PAGES: Case<'static> = Case {
         mode: Mode::Sv39,
     },
     lengths: &[],
+    spare: 0,
     store: JOURNAL,
     gates: &[],
     trace: b"spawn\nmmap 1 0 0x6000 rw- common\nstore 1 0x10000 1 0x11\nfork 1\nstore 1 0x11000 1 0x21\n\
@@ -206,6 +234,7 @@ pub(crate) const MOST_PAGES: Case<'static> = Case {
         mode: Mode::Sv39,
     },
     lengths: &[4194304],
+    spare: 0,
     store: JOURNAL,
     gates: &[8193, 20483, 28685],
     trace: b"",

@@ -1,8 +1,8 @@
 //! Each call of a device failing once.
 use crate::bench::{Armed, Case, expect};
 use crate::cases::{
-    HALTING, MOST_PAGES, OBJECT_PAGES, OWN_PAGES, PAGES_IN_SLOTS, PARTIAL_PAGE, SHARED_COPY,
-    TWO_FILES, TWO_PAGES_IN_A_POOL, TWO_PROCESSES, most_pages,
+    HALTING, MOST_PAGES, OBJECT_PAGES, OTHER_LENGTHS, OWN_PAGES, PAGES_IN_SLOTS, PARTIAL_PAGE,
+    SHARED_COPY, TWO_FILES, TWO_PAGES_IN_A_POOL, TWO_PROCESSES, most_pages,
 };
 use crate::fillings::EACH;
 
@@ -33,7 +33,13 @@ fn a_failing_call_of_swap_stalls_one_line(rt: HostRuntime) {
 /// The machine does not start, or a line stalls, or an msync fails and halts it.
 #[test]
 fn a_failing_call_of_the_store_leaves_an_msync_or_none(rt: HostRuntime) {
-    for case in [PARTIAL_PAGE, TWO_FILES, TWO_PROCESSES, TWO_PAGES_IN_A_POOL] {
+    for case in [
+        PARTIAL_PAGE,
+        TWO_FILES,
+        TWO_PROCESSES,
+        TWO_PAGES_IN_A_POOL,
+        OTHER_LENGTHS,
+    ] {
         case.try_each(&rt, false);
     }
 }

@@ -3,10 +3,28 @@ use crate::bench::{Case, Told, expect};
 use flat_model::Flat;
 use machine::BootFault;
 use runner::RunEnd;
+use std::alloc::{AllocError, Global};
 use std::process::Abort;
 use stores::NewStore;
 use sync_journal::PAGE_LIMIT;
 use trace_lang::{parse_line, reply_text};
+
+/// What files hold after a stop: how long the first two are, where they are there, and the pages of all.
+#[derive(Clone, Drop)]
+pub(crate) struct Held {
+    pub lengths: [Option<u64>; 2],
+    pub pages: Vec<u8>,
+}
+
+impl Held {
+    /// What they hold by the model.
+    pub(crate) fn new(alloc: Global, flat: &Flat) -> Result<Held, AllocError> {
+        Ok(Held {
+            lengths: [flat.durable_length(0), flat.durable_length(1)],
+            pages: flat.durable(alloc)?,
+        })
+    }
+}
 
 /// What the model makes of a run.
 #[derive(Drop)]
@@ -16,8 +34,8 @@ pub(crate) struct Judge {
     pub stalls: usize,
     /// How many msyncs returned `ok`.
     pub synced: usize,
-    /// What the homes hold before the msync that failed, if one did: it is carried out.
-    pub before: Option<Vec<u8>>,
+    /// What the files hold before the msync that failed, if one did: it is carried out.
+    pub before: Option<Held>,
 }
 
 impl Judge {
@@ -37,7 +55,7 @@ impl Judge {
         }
         let has_failed = reply == b"error 5 EIO".as_slice();
         if has_failed {
-            self.before = Some(self.flat.durable(rt.alloc()).expect(rt, "memory"));
+            self.before = Some(Held::new(rt.alloc(), &self.flat).expect(rt, "memory"));
         } else if line.starts_with(b"msync") && reply == b"ok".as_slice() {
             self.synced = self.synced.saturating_add(1);
         }
@@ -63,7 +81,9 @@ pub(crate) fn heard(
         NewStore::Journal => PAGE_LIMIT,
         NewStore::Pool(blocks) => 504 * blocks as usize,
     };
-    let flat = Flat::new(rt.alloc(), case.config.mode, most, case.lengths).expect(rt, "memory");
+    let resizes = matches!(case.store, NewStore::Pool(_));
+    let flat = Flat::new(rt.alloc(), case.config.mode, most, resizes, case.lengths);
+    let flat = flat.expect(rt, "memory");
     let mut judge = Judge {
         flat,
         stalls: 0,

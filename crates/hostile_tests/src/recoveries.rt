@@ -5,9 +5,9 @@
 //! stopped recoveries leave, those are left out in which the filling of one isn't the next of `FILLINGS` after that of the one
 //! before; for the longest trace the first stop takes one filling a write, the next each time. So each test takes seconds.
 use crate::bench::{Armed, Case, expect, tried};
-use crate::cases::{ONE_PAGE_IN_A_POOL, PARTIAL_PAGE, TWO_FILES, TWO_PROCESSES};
+use crate::cases::{ONE_PAGE_IN_A_POOL, OTHER_LENGTHS, PARTIAL_PAGE, TWO_FILES, TWO_PROCESSES};
 use crate::fillings::{EACH, FILLINGS, OPEN};
-use crate::judge::heard;
+use crate::judge::{Held, heard};
 use crate::short_disk::ShortDisk;
 use std::process::Abort;
 use stores::OpenFault;
@@ -23,20 +23,19 @@ struct Left {
     filling: usize,
 }
 
-/// Recovers an image, which has to give these homes: how many writes that took.
-fn recover(rt: &(impl AllocGlobal + Abort), disk: ShortDisk, wanted: &[u8]) -> u64 {
-    let (fault, disk) = tried(rt.alloc(), disk);
-    let found = disk.homes(rt.alloc()).expect(rt, "memory");
-    let is_same = fault.is_none() && found.as_slice() == wanted;
+/// Recovers an image, which has to give these files: how many writes that took.
+fn recover(rt: &(impl AllocGlobal + Abort), disk: ShortDisk, wanted: &Held) -> u64 {
+    let opened = tried(rt.alloc(), disk);
+    let is_same = opened.holds(rt.alloc(), wanted).expect(rt, "memory");
     expect(rt, is_same, "other files");
-    disk.disk.writes()
+    opened.disk.disk.writes()
 }
 
-/// Recovers an image, which has to give these homes, and lists what stops at each write of that leave of it.
+/// Recovers an image, which has to give these files, and lists what stops at each write of that leave of it.
 fn stop_at_each(
     rt: &(impl AllocGlobal + Abort),
     before: Left,
-    wanted: &[u8],
+    wanted: &Held,
     list: &mut Vec<Left>,
 ) {
     if before.stops >= STOPS {
@@ -47,9 +46,10 @@ fn stop_at_each(
     for write in 1..=recover(rt, copy, wanted) {
         let mut disk = before.disk.left(rt.alloc(), None).expect(rt, "memory");
         disk.disk.stop_at(write);
-        let (fault, disk) = tried(rt.alloc(), disk);
-        expect(rt, fault == Some(OpenFault::Device), "it stopped nothing");
-        let left = disk.left(rt.alloc(), FILLINGS[before.filling % 5]);
+        let stopped = tried(rt.alloc(), disk);
+        let has_stopped = stopped.fault == Some(OpenFault::Device);
+        expect(rt, has_stopped, "it stopped nothing");
+        let left = stopped.disk.left(rt.alloc(), FILLINGS[before.filling % 5]);
         list.push(Left {
             disk: left.expect(rt, "memory"),
             stops: before.stops.saturating_add(1),
@@ -82,7 +82,7 @@ fn stop_at(
         .expect(rt, "memory");
         for _ in 0..u64::MAX {
             match list.pop() {
-                Some(left) => stop_at_each(rt, left, wanted.as_slice(), &mut list),
+                Some(left) => stop_at_each(rt, left, &wanted, &mut list),
                 None => break,
             }
         }
@@ -109,9 +109,12 @@ fn stopped_recoveries_of_a_second_msync_change_nothing(rt: HostRuntime) {
     }
 }
 
-/// A recovery of a pool writes a block of the map and the gate. The first stop comes at the gate that names the second map.
+/// A recovery of a pool writes a block of the map and the gate. The first stop comes at the gate that names the second map, which makes a page or another length of
+/// a file durable.
 #[test]
 fn stopped_recoveries_of_a_pool_change_nothing(rt: HostRuntime) {
-    let image = ONE_PAGE_IN_A_POOL.image(&rt);
-    stop_at(&rt, &ONE_PAGE_IN_A_POOL, &image, 17, &[OPEN]);
+    for (case, gate) in [(ONE_PAGE_IN_A_POOL, 17), (OTHER_LENGTHS, 49)] {
+        let image = case.image(&rt);
+        stop_at(&rt, &case, &image, gate, &[OPEN]);
+    }
 }

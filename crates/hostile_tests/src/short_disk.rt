@@ -5,7 +5,7 @@ ghost use Rattle.disk_model.specs.Asked.{times_named};
 ghost use Rattle.disk_model.specs.SimDisk.{sectors_in, sector_of, IsUnsynced, moment_of, LeftSince, failures_of};
 
 use crate::fillings::{FILLINGS, OPEN};
-use disk_model::{Asked, DiskFault, SectorDisk, SimDisk};
+use disk_model::{Asked, DiskFault, SectorDisk, SimDisk, WriteZeros};
 use pool_journal::POOL_GATE;
 use pool_store::DIRECTORY_PAGES;
 use std::alloc::{AllocError, Global};
@@ -81,8 +81,9 @@ impl ShortDisk {
         let (pages, slots, homes) = match store {
             NewStore::Journal => (homes.min(PAGE_LIMIT as u64), 0, homes),
             NewStore::Pool(_) => {
+                let homes = homes.saturating_add(DIRECTORY);
                 let slots = homes.saturating_mul(2);
-                (slots, slots, homes.saturating_add(DIRECTORY))
+                (slots, slots, homes)
             }
         };
         let pieces = pieces_of(store, pages.saturating_mul(8), homes.saturating_mul(8));
@@ -296,3 +297,5 @@ impl SectorDisk for ShortDisk {
         Ok(())
     }
 }
+
+impl WriteZeros for ShortDisk {}

@@ -2,13 +2,13 @@
 //! and no more but at the write of a gate: the msync that failed too, whole, where the gate's sector holds what says that it is done.
 use crate::bench::{Armed, Case, expect};
 use crate::cases::{
-    MOST_PAGES, ONE_PAGE, ONE_PAGE_IN_A_POOL, PAGE_IN_THE_JOURNAL, PAGES_IN_SLOTS, PARTIAL_PAGE,
-    TWO_FILES_TWICE, TWO_PAGES_IN_A_POOL, TWO_PROCESSES, most_pages,
+    MOST_PAGES, ONE_PAGE, ONE_PAGE_IN_A_POOL, OTHER_LENGTHS, PAGE_IN_THE_JOURNAL, PAGES_IN_SLOTS,
+    PARTIAL_PAGE, TWO_FILES_TWICE, TWO_PAGES_IN_A_POOL, TWO_PROCESSES, most_pages,
 };
 
 /// Before the second msync of a page first the home of the first one's is written, then the gate is closed, and only then come the
 /// map, the body and the gate. Of a pool free slots are written first, then the other map, and then the gate. Several pages are all
-/// old or all new.
+/// old or all new, and so is the length of a file with them.
 #[test]
 fn pages_are_all_old_or_all_new(rt: HostRuntime) {
     for case in [
@@ -18,6 +18,7 @@ fn pages_are_all_old_or_all_new(rt: HostRuntime) {
         PAGE_IN_THE_JOURNAL,
         ONE_PAGE_IN_A_POOL,
         TWO_PAGES_IN_A_POOL,
+        OTHER_LENGTHS,
         TWO_FILES_TWICE,
         PAGES_IN_SLOTS,
     ] {

@@ -8,8 +8,8 @@ fn expect(rt: &impl Abort, line: &[u8], want: Result<Command, BadLine>) {
     assert_eq!(rt; parse_line(line), want, "at {line:?}");
 }
 
-/// What is read of addresses, and what changes mappings.
-const COMMANDS: [(&[u8], Command); 16] = [
+/// What is read of addresses, and what changes mappings or files.
+const COMMANDS: [(&[u8], Command); 18] = [
     (b"spawn", Command::Spawn),
     (b"faults", Command::PastFaults),
     (b"fork 1", Command::Fork { pid: 1 }),
@@ -69,6 +69,20 @@ const COMMANDS: [(&[u8], Command); 16] = [
             addr: 0x10000,
             len: 12288,
             mode: MsyncMode::Async,
+        },
+    ),
+    (
+        b"truncate 3 5000",
+        Command::Truncate {
+            file: 3,
+            length: 5000,
+        },
+    ),
+    (
+        b"truncate 0x40 18446744073709551615",
+        Command::Truncate {
+            file: 64,
+            length: u64::MAX,
         },
     ),
     (
@@ -231,7 +245,7 @@ fn each_form_is_read(rt: HostRuntime) {
 }
 
 /// Lines of no form.
-const BAD_LINES: [&[u8]; 75] = [
+const BAD_LINES: [&[u8]; 82] = [
     b"",
     b" ",
     b"spawn ",
@@ -296,6 +310,13 @@ const BAD_LINES: [&[u8]; 75] = [
     b"mmap 1 0 1 rw- common 0 0",
     b"mmap 1 0 1 rw- common twice",
     b"mmap 1 0 1 rw- commons",
+    b"truncate",
+    b"truncate 0",
+    b"truncate 0 ",
+    b"truncate 0  1",
+    b"truncate 0 -1",
+    b"truncate 0 18446744073709551616",
+    b"truncate 0 4096 4096",
     b"munmap 1 0x10000",
     b"munmap 1 0x10000 4096 4096",
     b"munmap 1 0x10000 4096 fixed",

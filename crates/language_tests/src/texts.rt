@@ -26,7 +26,7 @@ const PAST_THE_END: Fault = Fault {
     addr: 0x12000,
 };
 
-const TEXTS: [(Answer, &[u8]); 24] = [
+const TEXTS: [(Answer, &[u8]); 25] = [
     (Answer::Address(0x10000), b"addr 0x10000\n"),
     (Answer::Address(0), b"addr 0x0\n"),
     (Answer::Done, b"ok\n"),
@@ -68,6 +68,7 @@ const TEXTS: [(Answer, &[u8]); 24] = [
     (Answer::Refused(Errno::EACCES), b"error 13 EACCES\n"),
     (Answer::Refused(Errno::EEXIST), b"error 17 EEXIST\n"),
     (Answer::Refused(Errno::EINVAL), b"error 22 EINVAL\n"),
+    (Answer::Refused(Errno::EFBIG), b"error 27 EFBIG\n"),
     (Answer::Refused(Errno::ENOSPC), b"error 28 ENOSPC\n"),
     (Answer::Refused(Errno::EOVERFLOW), b"error 75 EOVERFLOW\n"),
     (Answer::Stalled(Stall::NoFrames), b"stall 1 NOFRAMES\n"),

@@ -1,7 +1,7 @@
 //! A machine over devices in memory: what is done on it, and what has to come of that.
 ghost use Rattle.machine.specs.Machine.{IsSoundMachine};
 
-use disk_model::{SectorDisk, SimDisk};
+use disk_model::{SectorDisk, SimDisk, WriteZeros};
 use file_store::FileSource;
 use machine::{BootFault, Config, Machine};
 use runner::Devices;
@@ -164,7 +164,7 @@ pub(crate) fn reply(rt: &impl Abort, end: End) -> Reply {
 }
 
 /// Carries out five commands at once.
-fn run<D: SectorDisk, E: SectorDisk>(
+fn run<D: WriteZeros, E: SectorDisk>(
     rt: &impl Abort,
     machine: &mut Machine<D, E>,
     calls: [Call; 5],
@@ -180,7 +180,7 @@ fn run<D: SectorDisk, E: SectorDisk>(
 }
 
 /// Sees that the history is that fault of the first process, and that only `step` replies with it.
-fn keeps_unmapped<D: SectorDisk, E: SectorDisk>(rt: &impl Abort, machine: &mut Machine<D, E>)
+fn keeps_unmapped<D: WriteZeros, E: SectorDisk>(rt: &impl Abort, machine: &mut Machine<D, E>)
     requires { IsSoundMachine D.SectorDisk E.SectorDisk machine.old }
     ensures { IsSoundMachine D.SectorDisk E.SectorDisk machine.new }
 {
@@ -190,7 +190,7 @@ fn keeps_unmapped<D: SectorDisk, E: SectorDisk>(rt: &impl Abort, machine: &mut M
     equal(rt, machine.carry_out(Command::PastFaults), None);
 }
 
-fn carry_out_one<D: SectorDisk, E: SectorDisk>(
+fn carry_out_one<D: WriteZeros, E: SectorDisk>(
     rt: &impl Abort,
     machine: &mut Machine<D, E>,
     act: Act,
@@ -218,7 +218,7 @@ fn carry_out_one<D: SectorDisk, E: SectorDisk>(
     }
 }
 
-pub(crate) fn carry_out<D: SectorDisk, E: SectorDisk>(
+pub(crate) fn carry_out<D: WriteZeros, E: SectorDisk>(
     rt: &impl Abort,
     machine: &mut Machine<D, E>,
     acts: &[Act],
@@ -232,7 +232,7 @@ pub(crate) fn carry_out<D: SectorDisk, E: SectorDisk>(
 }
 
 /// Starts a machine, and does that on it: why it did not start, if so, and the store as it is given back.
-pub(crate) fn lived<D: SectorDisk, E: SectorDisk + Drop>(
+pub(crate) fn lived<D: WriteZeros, E: SectorDisk + Drop>(
     rt: &(impl AllocGlobal + Abort),
     config: Config,
     devices: Devices<D, E>,

@@ -4,7 +4,7 @@
 //! them, as in `programs`. The contracts say only that a machine is sound (`IsSoundMachine`), which `boot` ensures, and `step`
 //! asks for and keeps.
 use crate::bench::equal;
-use disk_model::{SectorDisk, SimDisk};
+use disk_model::{SimDisk, WriteZeros};
 use file_store::{FileSource, format};
 use machine::{Config, Machine};
 use std::alloc::Global;
@@ -38,7 +38,7 @@ const LOAD: Command = Command::Load {
 
 /// A machine of 8 frames starts on a store, with 16 slots on a device of their own, and carries out commands: the last reply, and the
 /// store, given back.
-fn lived<D: SectorDisk + Drop>(
+fn lived<D: WriteZeros + Drop>(
     alloc: Global,
     store: D,
     commands: &[Command],

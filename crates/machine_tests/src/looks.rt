@@ -2,7 +2,7 @@
 ghost use Rattle.machine.specs.Machine.{IsSoundMachine};
 
 use crate::bench::{Act, CONFIG, Call, Contents, End, carry_out, equal, first, image, with_swap};
-use disk_model::SectorDisk;
+use disk_model::{SectorDisk, WriteZeros};
 use inspection::{FrameView, Holding, PageView, Place, SlotHolding, SlotView, Step, TablePlace};
 use machine::{Config, Machine};
 use runner::Devices;
@@ -134,7 +134,7 @@ fn look_at_frames<D: SectorDisk, E: SectorDisk>(
 }
 
 /// Stores a byte on a machine, and looks into it.
-fn look_after_a_store<D: SectorDisk + Drop, E: SectorDisk + Drop>(
+fn look_after_a_store<D: WriteZeros + Drop, E: SectorDisk + Drop>(
     rt: &(impl AllocGlobal + Abort),
     config: Config,
     devices: Devices<D, E>,

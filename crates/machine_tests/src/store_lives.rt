@@ -1,6 +1,6 @@
 //! Two lives of a store on a device in memory, the second of which is stopped in the gate of its msync.
 use crate::bench::{Call, Contents, End, command, equal, image, left, reply, with_swap};
-use disk_model::{SectorDisk, SimDisk};
+use disk_model::{SectorDisk, SimDisk, WriteZeros};
 use lives::{
     boot_after_lives, flat_run, formatted_lives, hardware_life, live, lives_boot, lives_in_a_row,
     new_store, one_content, one_more_life, trace_life, two_lives, upgraded_lives, upgraded_store,
@@ -26,7 +26,7 @@ fn storing(byte: u64) -> [Call; 4] {
 const LOADING: [Call; 4] = [Call::Spawn, Call::MapFileFixed, Call::Load, Call::Load];
 
 /// A life on that store: its last reply, unless it did not start, and the store as it is handed on.
-fn lived<D: SectorDisk, E: SectorDisk + Drop>(
+fn lived<D: WriteZeros, E: SectorDisk + Drop>(
     rt: &(impl AllocGlobal + Abort),
     mode: Mode,
     devices: Devices<D, E>,

@@ -1,7 +1,9 @@
 //! Numbers that look random, and commands that are made of them.
 ghost use Rattle.std.specs.Prelude.{◌<◌, ◌^◌};
 
-use vm_types::{Command, MapSource, Mode, MsyncMode, Placing, Prot, StoredValue, Width};
+use vm_types::{
+    Command, LONGEST_FILE, MapSource, Mode, MsyncMode, Placing, Prot, StoredValue, Width,
+};
 
 /// The pages that commands name, in rows of four neighbours, each row under a table of its own.
 const PLACES: u64 = 12;
@@ -12,8 +14,11 @@ const ROW: u64 = 4;
 /// The most processes that are made.
 const PROCESSES: usize = 3;
 
-/// Pages of the file.
+/// Pages of the file at first.
 pub(crate) const FILE_PAGES: u32 = 6;
+
+/// The most pages that it gets.
+const MOST_PAGES: u64 = 8;
 
 /// The row that lies apart in Sv48: it has only the root in common with the others.
 const FAR: u64 = 2;
@@ -73,7 +78,7 @@ impl Draws {
     /// What a mapping is to stand on.
     fn source(&mut self) -> MapSource {
         let file = 0;
-        let offset = 4096 * self.below(1 + u64::from(FILE_PAGES) - ROW);
+        let offset = 4096 * self.below(1 + MOST_PAGES - ROW);
         match self.below(5) {
             0 => MapSource::Anon,
             1 => MapSource::Private { file, offset },
@@ -105,6 +110,18 @@ impl Draws {
         }
     }
 
+    /// Another length of the file: of whole pages or not, and one in sixteen is over the longest. One in sixteen is of a file that isn't there.
+    fn length(&mut self) -> Command {
+        let file = self.below(16) / 15;
+        let pages = self.below(MOST_PAGES);
+        let length = match self.below(16) {
+            0 => LONGEST_FILE + 1 + pages,
+            1..=6 => 4096 * pages,
+            _ => 4096 * pages + self.below(4096),
+        };
+        Command::Truncate { file, length }
+    }
+
     /// A command, where so many processes live.
     pub(crate) fn command(&mut self, processes: usize) -> Option<Command> {
         let pid = 1 + self.below(PROCESSES as u64 + 1);
@@ -116,7 +133,8 @@ impl Draws {
             2 if may_come => Command::Fork { pid },
             3 => Command::Exit { pid },
             4..=10 => self.call(pid),
-            11..=20 => Command::Store {
+            11..=13 => self.length(),
+            14..=22 => Command::Store {
                 pid,
                 addr,
                 stored: StoredValue::new(Width::One, self.below(256))?,

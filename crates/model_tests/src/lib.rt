@@ -5,3 +5,5 @@
 mod draws;
 #[cfg(test)]
 mod runs;
+#[cfg(test)]
+mod standing;

@@ -3,8 +3,8 @@ ghost use Rattle.std.specs.Prelude.{ℕ, IfOk};
 ghost use Rattle.machine.specs.Machine.{IsSoundMachine};
 
 use crate::draws::{Draws, FILE_PAGES};
-use disk_model::{SectorDisk, SimDisk};
-use file_store::{FileSource, format};
+use crate::standing::{compare, image};
+use disk_model::{SectorDisk, SimDisk, WriteZeros};
 use flat_model::Flat;
 use machine::{Config, Machine};
 use std::alloc::Global;
@@ -15,31 +15,16 @@ use vm_types::{Command, Mode, Reply, Stall};
 /// Commands of a run.
 const COMMANDS: usize = 400;
 
-/// An image of one file of zeros.
-fn image(alloc: Global) -> Result<SimDisk, Fail> {
-    let mut disk = SimDisk::new(alloc, 8195 + 8 * u64::from(FILE_PAGES))?;
-    let mut files: [FileSource<&[u8]>; 1] = [FileSource {
-        read_only: false,
-        length: 4096 * FILE_PAGES,
-        bytes: None,
-    }];
-    format(&mut disk, &mut files)?;
-    Ok(disk)
-}
-
-/// A machine over that image, of whose swap device call `failing` fails.
-fn booted(
-    alloc: Global,
-    config: Config,
-    failing: Option<u64>,
-) -> Result<Machine<SimDisk, SimDisk>, Fail>
+/// A machine over an image of a file, whose devices are such.
+fn booted(alloc: Global, setting: Setting) -> Result<Machine<SimDisk, SimDisk>, Fail>
     ensures { IfOk result (λ m. IsSoundMachine ⟦<SimDisk as SectorDisk>⟧ ⟦<SimDisk as SectorDisk>⟧ m) }
 {
+    let config = setting.config;
     let mut swap = SimDisk::new(alloc, 8 * u64::from(config.slots))?;
-    if let Some(call) = failing {
+    if let Some(call) = setting.failing {
         swap.fail_at(call);
     }
-    match Machine::boot(alloc, config, image(alloc)?, swap) {
+    match Machine::boot(alloc, config, image(alloc, setting.resizes)?, swap) {
         Ok(machine) => Ok(machine),
         Err((fault, _)) => Err(Fail::new(format_args!("boot: {fault:?}"))),
     }
@@ -71,6 +56,8 @@ fn is_success(reply: Reply) -> bool {
 #[derive(Clone, Copy, Debug)]
 struct Setting {
     config: Config,
+    /// The store can give files other lengths.
+    resizes: bool,
     /// The call of the swap device that fails, from 1 on.
     failing: Option<u64>,
 }
@@ -83,7 +70,7 @@ fn is_due(setting: Setting, flat: &Flat, command: Command, stall: Stall) -> Resu
 }
 
 /// Carries out a command, and has its reply be the model's, or a stall that may be, which is returned.
-fn go_on<D: SectorDisk, E: SectorDisk>(
+fn go_on<D: WriteZeros, E: SectorDisk>(
     machine: &mut Machine<D, E>,
     setting: Setting,
     flat: &mut Flat,
@@ -111,15 +98,19 @@ struct Told {
     swap_device: u64,
 }
 
-/// A run of random commands.
+/// A run of random commands, which leaves the file as the model says.
 fn run(alloc: Global, setting: Setting, seed: u64) -> Result<Told, Fail> {
-    let mut flat = Flat::new(alloc, setting.config.mode, PAGE_LIMIT, &[4096 * FILE_PAGES])?;
-    let mut machine = booted(alloc, setting.config, setting.failing)?;
-    carry_out(&mut machine, setting, &mut flat, seed)
+    let mode = setting.config.mode;
+    let lengths = [4096 * FILE_PAGES];
+    let mut flat = Flat::new(alloc, mode, PAGE_LIMIT, setting.resizes, &lengths)?;
+    let mut machine = booted(alloc, setting)?;
+    let told = carry_out(&mut machine, setting, &mut flat, seed)?;
+    compare(alloc, machine.into_store(), &flat)?;
+    Ok(told)
 }
 
 /// Carries out random commands one after another.
-fn carry_out<D: SectorDisk, E: SectorDisk>(
+fn carry_out<D: WriteZeros, E: SectorDisk>(
     machine: &mut Machine<D, E>,
     setting: Setting,
     flat: &mut Flat,
@@ -162,7 +153,7 @@ fn enough(mode: Mode) -> Config {
 
 /// Every reply is the flat model's, or a stall that memory or slots are short for: runs in 8 to 12 frames with few slots and with many.
 fn few_frames(alloc: Global, mode: Mode) -> Result<(), Fail> {
-    for seed in 0..5 {
+    for seed in 0..6 {
         for frames in 8..13 {
             for slots in [0, 3, 16] {
                 let setting = Setting {
@@ -171,6 +162,7 @@ fn few_frames(alloc: Global, mode: Mode) -> Result<(), Fail> {
                         slots,
                         mode,
                     },
+                    resizes: seed % 2 == 1,
                     failing: None,
                 };
                 run(alloc, setting, 100 * seed + u64::from(frames))?;
@@ -197,6 +189,7 @@ fn nothing_stalls_where_there_is_enough(rt: HostRuntime) -> Result<(), Fail> {
         for seed in 0..10 {
             let setting = Setting {
                 config: enough(mode),
+                resizes: seed % 2 == 1,
                 failing: None,
             };
             let told = run(rt.alloc(), setting, seed)?;
@@ -214,6 +207,7 @@ fn failing_once(alloc: Global, mode: Mode) -> Result<(), Fail> {
     for call in 1..30 {
         let setting = Setting {
             config: enough(mode),
+            resizes: call % 2 == 1,
             failing: Some(11 * call),
         };
         let stalls = run(alloc, setting, call)?;

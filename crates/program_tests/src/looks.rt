@@ -37,7 +37,7 @@ const LOOKS: &[Step<'static>] = &[
 ?walk 1\n\
 \x20 the form is ?walk P ADDR\n\
 ?what\n\
-\x20 one may ask ?walk P ADDR, ?tables P, ?maps P, ?bytes P ADDR, ?frames [FIRST LAST], ?slots, ?tlb, ?counts, ?watch on|off\n\
+\x20 one may ask ?walk P ADDR, ?tables P, ?maps P, ?bytes P ADDR, ?frames [FIRST LAST], ?slots, ?files, ?tlb, ?counts, ?watch on|off\n\
 bad line\n\
 value 0x5a\n",
     ),

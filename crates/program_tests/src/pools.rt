@@ -1,6 +1,6 @@
 //! Images of layout 4, whose pages stay in a pool.
 use std::test::Fail;
-use test_steps::FileStep::{HasAt, IsFilledAt, IsLong, IsMissing};
+use test_steps::FileStep::{HasAt, IsFilledAt, IsLong, IsMissing, SetLength};
 use test_steps::Program::{Format, Run, Stops};
 use test_steps::Step::{self, Does, Fails, File, Refuses, Removes, Shows};
 use test_steps::carry_out_all;
@@ -11,7 +11,7 @@ const RUN: &[&str] = &["@image", "@swap"];
 /// The words that write the first file out.
 const FIRST: &[&str] = &["@image", "0"];
 
-const POOLS: [(&str, &[Step<'static>]); 3] = [
+const POOLS: [(&str, &[Step<'static>]); 4] = [
     // 48 sectors, four times the blocks of both maps and their slots, and the page.
     (
         "new4",
@@ -78,6 +78,35 @@ const POOLS: [(&str, &[Step<'static>]); 3] = [
             ),
             File("@image", IsLong(512 * (48 + 8080 * 3 + 8))),
             Does(Run, RUN, b"spawn\n", b"pid 1\n"),
+            Removes(RUN),
+        ],
+    ),
+    // A file of one page on an image with room for three more: what it shows is of the length that was made durable.
+    (
+        "lengths",
+        &[
+            Does(
+                Format,
+                &["new4", "--pool", "1", "@image", "zero:4096"],
+                b"",
+                b"",
+            ),
+            File("@image", SetLength(512 * (48 + 8080 + 32))),
+            Does(
+                Run,
+                RUN,
+                b"spawn\nmmap 1 0 0x4000 rw- shared 0 0\nstore 1 0x10000 1 0x5a\ntruncate 0 0x3001\nstore 1 0x13000 1 0x61\n\
+msync 1 0x10000 1 sync\ntruncate 0 0\n",
+                b"pid 1\naddr 0x10000\nok\nok\nok\nok\nok\n",
+            ),
+            Shows(FIRST, &[(b"\x5a", 1), (b"\0", 0x2fff), (b"\x61", 1)]),
+            Does(
+                Run,
+                RUN,
+                b"truncate 0 100\nspawn\nmmap 1 0 4096 r-- shared 0 0\nmsync 1 0x10000 1 sync\n",
+                b"ok\npid 1\naddr 0x10000\nok\n",
+            ),
+            Shows(FIRST, &[(b"\x5a", 1), (b"\0", 99)]),
             Removes(RUN),
         ],
     ),

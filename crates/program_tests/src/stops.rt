@@ -31,13 +31,22 @@ const TWO_MSYNCS: &[u8] =
 store 1 0x10000 1 0x5b\nmsync 1 0x10000 4096 sync\n";
 
 /// Some events, and traces whose msyncs write nothing.
-const SOME: [Step<'static>; 4] = [
+const SOME: [Step<'static>; 5] = [
     // The gates of a pool: what opens a gate names the second map, and any other bytes the first.
     Does(
         Stops,
         &["--layout", "4", "--every", "19", "zero:1"],
         TWO_MSYNCS,
         b"stop 19 gate acknowledged 0 left 0 0 0 0 1\nstop 38 gate acknowledged 1 left 1 2 2 2 1\nstops 2 recoveries 10 bad 0\n",
+    ),
+    // Of two files that hold zeros one has no byte after the first msync, and the other none after the second: all their bytes are the
+    // same after both, and only the lengths differ.
+    Does(
+        Stops,
+        &["--layout", "4", "--every", "47", "zero:4096", "zero:4096"],
+        b"spawn\nmmap 1 0 4096 rw- shared 0 0\nmmap 1 0 4096 rw- shared 1 0\ntruncate 0 0\nmsync 1 0x10000 1 sync\n\
+truncate 0 4096\ntruncate 1 0\nmsync 1 0x10000 0x2000 sync\n",
+        b"stop 47 gate acknowledged 1 left 1 2 2 2 1\nstops 1 recoveries 5 bad 0\n",
     ),
     // Each second one.
     Does(

@@ -1,7 +1,7 @@
-//! A process begins, maps a page, touches it and loads a byte of it; then comes what is no request.
+//! A process begins, maps a page, touches it and loads a byte of it; then a file is to get another length, and then comes what is no request.
 ghost use Rattle.machine.specs.Machine.{IsSoundMachine};
 
-use disk_model::{SectorDisk, SimDisk};
+use disk_model::{SectorDisk, SimDisk, WriteZeros};
 use file_store::{FileSource, format};
 use inspection::root_step;
 use machine::{Config, Machine};
@@ -11,21 +11,24 @@ use std::fmt::Debug;
 use std::process::Abort;
 use vm_types::{Mode, Pid, USER_START};
 
-/// The page at 0x10000 is of zeros, and may be read and written.
-const REQUESTS: [[u64; 9]; 5] = [
+/// The page at 0x10000 is of zeros, and may be read and written. The file is to have 100 bytes.
+const REQUESTS: [[u64; 9]; 6] = [
     [0, 0, 0, 0, 0, 0, 0, 0, 0],
     [3, 1, 0x10000, 4096, 3, 0, 0, 0, 1],
     [11, 1, 0x10000, 0, 0, 0, 0, 0, 0],
     [9, 1, 0x10000, 1, 0, 0, 0, 0, 0],
-    [12, 1, 0x10000, 4096, 3, 0, 0, 0, 1],
+    [12, 0, 0, 100, 0, 0, 0, 0, 0],
+    [13, 1, 0x10000, 4096, 3, 0, 0, 0, 1],
 ];
 
-/// The process 1, the address, done, the byte 0 of one byte's width, and that the last is no request. The first ends with the root table.
-const REPLIES: [[u64; 5]; 5] = [
+/// The process 1, the address, done, the byte 0 of one byte's width, `EINVAL`, since files of layout 2 keep their lengths, and that the last is no request. The
+/// first ends with the root table.
+const REPLIES: [[u64; 5]; 6] = [
     [0, 1, 0, 0, 0],
     [1, 0x10000, 0, 0, 0],
     [2, 0, 0, 0, 0],
     [3, 0, 1, 0, 0],
+    [5, 22, 0, 0, 0],
     [8, 0, 0, 0, 0],
 ];
 
@@ -56,7 +59,7 @@ fn root<D: SectorDisk, E: SectorDisk>(rt: &impl Abort, machine: &Machine<D, E>) 
 }
 
 /// Serves the requests, after which comes less than one more, and sees that the replies are those.
-fn is_served<D: SectorDisk, E: SectorDisk>(
+fn is_served<D: WriteZeros, E: SectorDisk>(
     rt: &(impl AllocGlobal + Abort),
     machine: &mut Machine<D, E>,
 )

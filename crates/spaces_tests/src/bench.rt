@@ -2,6 +2,7 @@
 //!
 //! A test is a table of such rows, which is data alone: each call, each look at memory and each comparison that a test made itself
 //! would have to be proved to end well, with all that stands before it in mind.
+ghost use Rattle.std.specs.Prelude.{◌≡◌, true};
 ghost use Rattle.msync.specs.Shows.{IsSoundCore};
 ghost use Rattle.residency.specs.Parts.{IsFit};
 ghost use Rattle.residency.specs.Picture.{picture_of};
@@ -17,9 +18,10 @@ use std::alloc::{AllocError, Global};
 use std::fmt::Debug;
 use std::process::Abort;
 use std::test::Fail;
+use stores::Store;
 use vm_types::{
-    Answer, Backing, Code, Errno, Fault, FrameNo, Levels, MapSource, MsyncMode, PageKey, Pid,
-    Placing, Prot, SlotNo, Stall, StoredValue, Vpn, Width,
+    Answer, Backing, Code, Errno, Fault, FilePage, FrameNo, Levels, MapSource, MsyncMode, PageKey,
+    Pid, Placing, Prot, SlotNo, Stall, StoredValue, Vpn, Width,
 };
 
 /// 16 frames and no slot, over a file without a byte, on devices that work.
@@ -29,6 +31,7 @@ pub(crate) const PLAIN: Sizes = Sizes {
     length: 0,
     first: 0,
     read_only: false,
+    free_homes: None,
     store_fails: 0,
     swap_fails: 0,
 };
@@ -57,6 +60,8 @@ pub(crate) enum Call {
     Protect(u64, u64, May),
     Msync(u64, u64, u64, MsyncMode),
     Dontneed(u64, u64),
+    /// A file and its new length.
+    Truncate(u64, u64),
     Load(u64, u64, Width),
     Store(u64, u64, Width, u64),
     Fetch(u64),
@@ -101,6 +106,8 @@ pub(crate) enum Step {
     Lies(PageKey, Place, bool),
     /// A byte of a sector of the store's device.
     Stored(u64, usize, u8),
+    /// The length of the file in what a stop leaves of the store now, and the first byte of one of its pages there.
+    Left(u64, u32, u8),
 }
 
 /// A row: its name, the memory that it begins with, and its steps, in parts that other rows may have too.
@@ -120,6 +127,13 @@ fn prot(may: May) -> Prot {
     }
 }
 
+/// Ends the test where something does not hold.
+fn expect(rt: &impl Abort, holds: bool, otherwise: &str)
+    ensures { holds ≡ true }
+{
+    assert!(rt; holds, "{otherwise}");
+}
+
 /// An msync. Memory is known to be sound after one that the store didn't fail, so the test ends where it did.
 fn synced<M: Levels>(
     rt: &(impl AllocGlobal + Abort),
@@ -130,13 +144,17 @@ fn synced<M: Levels>(
     ensures { IsSoundCore ⟦<SimDisk as SectorDisk>⟧ ⟦<SimDisk as SectorDisk>⟧ core.new }
 {
     let nodes = core.frames.len() + core.swap.len();
-    let Ok(mut room) = SyncRoom::new(rt.alloc(), core.store.always_free_pages(), nodes) else {
+    let most = core.store.store.always_free_pages();
+    let Ok(mut room) = SyncRoom::new(rt.alloc(), most, nodes, core.store.sizes.len()) else {
         panic!(rt; "memory");
     };
-    match spaces::msync(core, &mut room, call) {
-        Answer::Refused(Errno::EIO) => panic!(rt; "the store failed in an msync"),
-        answer => answer,
-    }
+    let answer = spaces::msync(core, &mut room, call);
+    expect(
+        rt,
+        answer != Answer::Refused(Errno::EIO),
+        "the store failed in an msync",
+    );
+    answer
 }
 
 fn called<M: Levels>(
@@ -177,6 +195,7 @@ fn called<M: Levels>(
             synced(rt, core, call)
         }
         Call::Dontneed(addr, len) => spaces::dontneed(core, 1, addr, len),
+        Call::Truncate(file, length) => spaces::truncate(core, file, length),
         Call::Load(pid, addr, width) => spaces::load(core, pid, addr, width),
         Call::Store(pid, addr, width, value) => {
             let stored = StoredValue::new(width, value).expect(rt, "a value of that width");
@@ -292,8 +311,31 @@ fn stored(disk: &SimDisk, sector: u64, at: usize) -> Option<u8> {
     disk.sector(sector).get(at).copied()
 }
 
+/// The length of the file in what a stop leaves of a device, and the first byte of one of its pages there; `None` where the file is
+/// too short to have that page.
+fn left(rt: &(impl AllocGlobal + Abort), disk: &SimDisk, page: u32) -> Option<(u64, u8)> {
+    let disk = disk.left(rt.alloc(), &[]).expect(rt, "memory");
+    let Ok(mut store) = Store::open(rt.alloc(), disk) else {
+        panic!(rt; "no store");
+    };
+    let info = store.file(0)?;
+    if info.length <= 4096 * u64::from(page) {
+        return None;
+    }
+    let mut bytes = [0; 4096];
+    match store.read_page(FilePage { file: 0, page }, &mut bytes) {
+        Ok(()) => Some((info.length, bytes[0])),
+        Err(_) => None,
+    }
+}
+
 /// Looks at memory, and ends the test where it isn't as is wanted.
-fn look<M: Levels>(rt: &impl Abort, core: &Core<SimDisk, SimDisk, M>, name: &str, step: Step)
+fn look<M: Levels>(
+    rt: &(impl AllocGlobal + Abort),
+    core: &Core<SimDisk, SimDisk, M>,
+    name: &str,
+    step: Step,
+)
     requires fit { IsFit (picture_of core.now) }
 {
     match step {
@@ -325,7 +367,16 @@ fn look<M: Levels>(rt: &impl Abort, core: &Core<SimDisk, SimDisk, M>, name: &str
             );
         }
         Step::Stored(sector, at, byte) => {
-            equal(rt, name, stored(core.store.disk(), sector, at), Some(byte))
+            equal(
+                rt,
+                name,
+                stored(core.store.store.disk(), sector, at),
+                Some(byte),
+            )
+        }
+        Step::Left(length, page, byte) => {
+            let found = left(rt, core.store.store.disk(), page);
+            equal(rt, name, found, Some((length, byte)));
         }
         _ => panic!(rt; "{name}: no look: {step:?}"),
     }

@@ -10,6 +10,8 @@ mod evictions;
 #[cfg(test)]
 mod fixtures;
 #[cfg(test)]
+mod lengths;
+#[cfg(test)]
 mod rows;
 #[cfg(test)]
 mod sharing;

@@ -1,6 +1,6 @@
 //! Each row of steps comes to what is wanted.
 use crate::bench::follow;
-use crate::{calls, evictions, sharing, wants};
+use crate::{calls, evictions, lengths, sharing, wants};
 use std::test::Fail;
 use vm_types::{Sv39, Sv48};
 
@@ -15,6 +15,13 @@ fn calls_return_what_is_wanted(rt: HostRuntime) -> Result<(), Fail> {
 #[test]
 fn pages_go_and_come_back_in_both_modes(rt: HostRuntime) -> Result<(), Fail> {
     let rows = &evictions::ROWS;
+    follow::<Sv39>(&rt, rows)?;
+    follow::<Sv48>(&rt, rows)
+}
+
+#[test]
+fn files_get_other_lengths_in_both_modes(rt: HostRuntime) -> Result<(), Fail> {
+    let rows = &lengths::ROWS;
     follow::<Sv39>(&rt, rows)?;
     follow::<Sv48>(&rt, rows)
 }

@@ -14,6 +14,8 @@ mod four_levels;
 #[cfg(test)]
 mod histories;
 #[cfg(test)]
+mod lengths;
+#[cfg(test)]
 mod limits;
 #[cfg(test)]
 mod many_files;
