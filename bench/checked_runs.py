@@ -8,7 +8,7 @@ from collections import Counter
 from dataclasses import dataclass, field
 from typing import NamedTuple
 
-from flat_model import NOFRAMES, NOSWAP, STOREDEV, SWAPDEV, command_of, open_stalls
+from flat_model import NOFRAMES, NOSWAP, PAGE, STOREDEV, SWAPDEV, command_of, open_stalls, page_count
 
 HERE = os.path.dirname(os.path.abspath(__file__))
 TOP = os.path.dirname(HERE)
@@ -16,6 +16,10 @@ sys.path.insert(0, f"{TOP}/tools")
 from built import built  # noqa: E402
 
 STOPPED = 70
+EIO, ENOSPC = "error 5 EIO", "error 28 ENOSPC"
+DIRECTORY = 4  # pages that pagefmt gives one of layout 4
+LEAST_ROOM = 64  # homes that a file gets at least where it gets new ones
+MUCH_ROOM = 12  # times the homes that files may have: then there is a row for each
 
 
 class Disagreement(Exception):
@@ -23,24 +27,26 @@ class Disagreement(Exception):
 
 
 class Setting(NamedTuple):
-    """The sizes of a machine, and which of its devices may fail."""
+    """The sizes of a machine, which of its devices may fail, and how many homes the image has for pages of files."""
 
     frames: int
     slots: int
     store_fails: bool
     swap_fails: bool
+    homes: int = 0
 
 
 @dataclass
 class Told:
     """What the replies of a run tell: the files that are durable at first and after each msync, which of these was acknowledged last, how many
-    lines have replies, whether the machine halted, and how often each command stalled for what."""
+    lines have replies, whether the machine halted, how often each command stalled for what, and how many msyncs lacked room for lengths."""
 
     durable: list
     acknowledged: int = 0
     lines: int = 0
     is_halted: bool = False
     stalls: Counter = field(default_factory=Counter)
+    lacking: int = 0
 
 
 @functools.cache
@@ -55,7 +61,7 @@ def program(name):
 def may_stall(model, command, effect, reply, setting):
     """Whether a command that would succeed may stall so: that stall is open to it, and the tables of the state after it and three more frames do not
     fit in memory, the pages that only memory or swap can hold are more than the slots, or the device that it names fails in this case."""
-    if reply not in open_stalls(command, effect):
+    if reply not in open_stalls(model, command, effect):
         return False
     if reply == NOFRAMES:
         before = copy.deepcopy((model.spaces, model.objects, model.touched, model.files))
@@ -65,6 +71,25 @@ def may_stall(model, command, effect, reply, setting):
         model.spaces, model.objects, model.touched, model.files = before
         return tables + 3 > setting.frames
     return {NOSWAP: model.held() > setting.slots, SWAPDEV: setting.swap_fails, STOREDEV: setting.store_fails}[reply]
+
+
+def has_room(model, command, setting):
+    """Whether the image has room for the lengths that an msync makes durable: True or False where it is so for certain, else None. A file that gets more pages than
+    it has durably gets one more row of homes, at least as many as it has, if there is such a row, or else as many as are missing; what a commit takes from
+    files it can't give to others."""
+    chosen, resized = model.taken(*command[1:4])
+    files = [model.files[number] for number in resized]
+    grown = [page_count(it.length) for it in files if page_count(it.length) > page_count(it.durable_length)]
+    cut = sum(page_count(it.durable_length) - it.shortest // PAGE for it in files)
+    if sum(grown) > setting.homes:
+        return False
+    wide = sum(max(LEAST_ROOM, page_count(it.durable_length)) for it in model.files) + sum(grown)
+    is_wide = not grown or MUCH_ROOM * wide <= setting.homes
+    return True if is_wide and len(chosen) + cut + DIRECTORY <= model.most else None
+
+
+def is_commit_of_lengths(model, command, effect):
+    return command is not None and command[0] == "msync" and effect is not None and bool(model.taken(*command[1:4])[1])
 
 
 def carry_out(told, model, command, effect):
@@ -77,8 +102,11 @@ def carry_out(told, model, command, effect):
 
 def is_allowed(told, model, command, effect, reply, setting):
     """Whether a command that would succeed may have a reply that is not the model's. An msync in which the store fails halts the machine; what stalls
-    does nothing."""
-    if command[0] == "msync" and effect and reply == "error 5 EIO" and setting.store_fails:
+    does nothing, nor does one whose lengths the image has no room for."""
+    if reply == ENOSPC and is_commit_of_lengths(model, command, effect):
+        told.lacking += 1
+        return not has_room(model, command, setting)
+    if command[0] == "msync" and effect and reply == EIO and setting.store_fails:
         carry_out(told, model, command, effect)
         told.is_halted = True
         return True
@@ -96,7 +124,7 @@ def compared(model, lines, replies, setting):
         wanted, effect = ("bad line", None) if command is None else ("halted", None) if told.is_halted else model.answer(command)
         told.lines += 1
         got = "\n".join(replies[at:at + 1 + wanted.count("\n")])
-        if got == wanted:
+        if got == wanted and not (is_commit_of_lengths(model, command, effect) and has_room(model, command, setting) is False):
             at += 1 + wanted.count("\n")
             carry_out(told, model, command, effect)
             if command and command[0] == "msync" and effect:
@@ -111,14 +139,17 @@ def compared(model, lines, replies, setting):
     return told
 
 
-def rest_of(model, lines, durable):
+def rest_of(model, lines, durable, setting):
     """What is durable after each msync of the lines whose replies were lost in a stop."""
     for line in lines:
         command = command_of(line)
         if command is None:
             continue
         _, effect = model.answer(command)
-        if effect:
+        room = has_room(model, command, setting) if is_commit_of_lengths(model, command, effect) else True
+        if room is None:
+            raise Disagreement("it is not certain whether a lost msync had room")
+        if effect and room:
             effect()
             if command[0] == "msync":
                 durable.append(model.durable())
@@ -152,13 +183,14 @@ def refused_for(ran, folder):
 
 
 def check_named(failed, told, refused):
-    """A reply names a device exactly where it failed: so one does where it failed at all, and no more than calls have failed."""
+    """A reply names a device exactly where it failed: so one does where it failed at all, and no more than calls have failed. Where a machine did not start, the first
+    device that failed is named alone."""
     named = Counter({"store": told.is_halted, "swap": 0})
     for (_, stall), number in told.stalls.items():
         named.update({STOREDEV: {"store": number}, SWAPDEV: {"swap": number}}.get(stall, {}))
     named.update([refused] if refused else [])
     for device, number in named.items():
-        if number > failed[device] or (failed[device] and not number):
+        if number > failed[device] or (failed[device] and not number and not refused):
             raise Disagreement(f"the {device} device failed in {failed[device]} calls, and {number} replies say so")
 
 
@@ -170,7 +202,7 @@ def replies_of(ran, model, lines, setting, is_stop):
     if ran.returncode != wanted or ran.stderr or (told.lines < len(lines) and wanted != STOPPED):
         raise Disagreement(f"status {ran.returncode} after {told.lines} of {len(lines)} lines: {ran.stderr.decode()}")
     if wanted == STOPPED:
-        rest_of(model, lines[told.lines:], told.durable)
+        rest_of(model, lines[told.lines:], told.durable, setting)
     return told, "stopped" if wanted == STOPPED else "halted" if told.is_halted else "done"
 
 

@@ -8,7 +8,9 @@ from typing import NamedTuple, Optional
 PAGE = 4096
 USER_START, USER_END = 16, 1 << 26
 MOST_PROCESSES, MOST_RUNS, MOST_PAGES, MOST_FAULTS = 64, 256, 1023, 16
-NUMBERS = {"ESRCH": 3, "EIO": 5, "EBADF": 9, "EAGAIN": 11, "ENOMEM": 12, "EACCES": 13, "EEXIST": 17, "EINVAL": 22, "ENOSPC": 28, "EOVERFLOW": 75}
+LONGEST_FILE = 1 << 42
+NUMBERS = {"ESRCH": 3, "EIO": 5, "EBADF": 9, "EAGAIN": 11, "ENOMEM": 12, "EACCES": 13, "EEXIST": 17, "EINVAL": 22, "EFBIG": 27, "ENOSPC": 28,
+           "EOVERFLOW": 75}
 MISALIGNED = {"load": 4, "store": 6, "fetch": 0}
 PAGE_FAULT = {"load": 13, "store": 15, "fetch": 12}
 NEEDED = {"load": "r", "store": "w", "fetch": "x"}
@@ -16,6 +18,7 @@ NOFRAMES, NOSWAP, SWAPDEV, STOREDEV = "stall 1 NOFRAMES", "stall 2 NOSWAP", "sta
 # what wants a frame may ask the swap device for it, and an access reads the store too
 FRAMED = (NOFRAMES, NOSWAP, SWAPDEV)
 STALLS = {"spawn": FRAMED, "fork": FRAMED, **{name: (*FRAMED, STOREDEV) for name in NEEDED}}
+ZEROS = bytes(PAGE)
 
 
 class Backing(NamedTuple):
@@ -39,18 +42,54 @@ class View:
 
 @dataclass
 class File:
+    """A file: its length and pages as processes see them, and as they are durable. A page that isn't there is zeros."""
+
     read_only: bool
     length: int
-    volatile: list
-    durable: list
+    volatile: dict
+    durable: dict
+    durable_length: int
+    resized: bool = False  # since its length was made durable
+    shortest: int = 0  # since then
 
     @staticmethod
     def new(read_only, content):
-        pages = [content[i:i + PAGE].ljust(PAGE, b"\0") for i in range(0, len(content), PAGE)]
-        return File(read_only, len(content), pages, list(pages))
+        pages = {i // PAGE: content[i:i + PAGE].ljust(PAGE, b"\0") for i in range(0, len(content), PAGE)}
+        return File(read_only, len(content), pages, dict(pages), len(content), shortest=len(content))
+
+    def page(self, number):
+        return self.volatile.get(number, ZEROS)
 
     def trimmed(self, page):
-        return self.volatile[page][:self.length - PAGE * page].ljust(PAGE, b"\0")
+        return cut(self.page(page), self.length - PAGE * page)
+
+    def held(self):
+        """The bytes that are durable."""
+        return b"".join(self.durable.get(page, ZEROS) for page in range(page_count(self.durable_length)))[:self.durable_length]
+
+    def resize(self, length):
+        """Gives it another length. What lies behind the shorter one of both is zeros when it is seen again."""
+        low = min(self.length, length)
+        self.volatile = {page: cut(content, low - PAGE * page) for page, content in self.volatile.items() if PAGE * page < low}
+        self.length, self.resized, self.shortest = length, True, min(self.shortest, length)
+
+    def commit(self, pages):
+        """Makes these pages durable, and where it got another length the whole file with it."""
+        for page in pages:
+            self.durable[page] = self.volatile[page] = self.trimmed(page)
+        if self.resized:
+            self.durable = {page: self.trimmed(page) for page in self.volatile if PAGE * page < self.length}
+            self.durable_length, self.resized, self.shortest = self.length, False, self.length
+
+
+def cut(content, count):
+    """A page with zeros from that byte on."""
+    return content[:max(0, count)].ljust(PAGE, b"\0")
+
+
+def page_count(length):
+    """How many pages hold so many bytes."""
+    return -(-length // PAGE)
 
 
 def error(name):
@@ -93,25 +132,30 @@ def within(space, pages):
     return [page for page in (pages if len(pages) <= len(space) else sorted(space)) if page in pages and page in space]
 
 
-def open_stalls(command, effect):
-    """The stalls that are open to a command which would succeed; an msync asks the swap device where it has pages to make durable."""
+def open_stalls(model, command, effect):
+    """The stalls that are open to a command which would succeed; an msync asks the swap device where it has pages to make durable, and a truncate wants a frame
+    where the shorter one of both lengths ends within a page, which it reads from the image only where the file gets longer."""
     if command[0] == "msync":
         return (SWAPDEV,) if effect else ()
+    if command[0] == "truncate":
+        was, length = model.files[command[1]].length, command[2]
+        return () if not effect or min(was, length) % PAGE == 0 else (*FRAMED, STOREDEV) if was < length else FRAMED
     return STALLS.get(command[0], ())
 
 
 class Model:
-    """A state of the flat model, and what each command does to it. Of an object it has the pages that were stored to, as long as they are named."""
+    """A state of the flat model, and what each command does to it. Of an object it has the pages that were stored to, as long as they are named. One msync takes
+    `most` pages, and files get other lengths where the store `resizes`, as one of layout 4."""
 
-    def __init__(self, files):
-        self.files = files
+    def __init__(self, files, most=MOST_PAGES, resizes=False):
+        self.files, self.most, self.resizes = files, most, resizes
         self.spaces = {}
         self.objects = {}
         self.touched = set()
         self.past = deque(maxlen=MOST_FAULTS)
 
     def durable(self):
-        return [b"".join(file.durable)[:file.length] for file in self.files]
+        return [file.held() for file in self.files]
 
     def answer(self, command):
         """The reply, and what is to be called where the command is carried out."""
@@ -271,17 +315,47 @@ class Model:
         reply = self.covering(pid, addr, length)
         if reply or is_async:
             return reply or "ok", None
-        backings = {self.spaces[pid][page].backing for page in pages_of(addr, length)}
-        chosen = {(b.number, b.page) for b in backings if b.kind == "shared"} & self.touched
-        if len(chosen) > MOST_PAGES:
+        chosen, resized = self.taken(pid, addr, length)
+        if len(chosen) > self.most:
             return error("ENOSPC"), None
-        return "ok", (lambda: self.commit(chosen)) if chosen else None
+        return "ok", (lambda: self.commit(chosen, resized)) if chosen or resized else None
 
-    def commit(self, chosen):
-        for number, page in chosen:
-            file = self.files[number]
-            file.durable[page] = file.volatile[page] = file.trimmed(page)
+    def taken(self, pid, addr, length):
+        """The touched pages that an msync of a mapped range takes, and the files of another length that it shows, of which it takes all that are touched."""
+        backings = {self.spaces[pid][page].backing for page in pages_of(addr, length)}
+        shown = {(b.number, b.page) for b in backings if b.kind == "shared"}
+        resized = {number for number, _ in shown if self.files[number].resized}
+        return {it for it in self.touched if it in shown or it[0] in resized}, resized
+
+    def commit(self, chosen, resized):
+        for number in {number for number, _ in chosen} | resized:
+            self.files[number].commit([page for it, page in chosen if it == number])
         self.touched -= chosen
+
+    # lengths of files
+
+    def truncate(self, number, length):
+        if number >= len(self.files):
+            return error("EBADF"), None
+        if self.files[number].read_only:
+            return error("EACCES"), None
+        if not self.resizes:
+            return error("EINVAL"), None
+        if length > LONGEST_FILE:
+            return error("EFBIG"), None
+        return "ok", (lambda: self.resize(number, length)) if length != self.files[number].length else None
+
+    def resize(self, number, length):
+        """Gives a file another length. Own copies behind the end are gone; touched stay the pages that begin before it, and touched is that in which the file ended."""
+        file = self.files[number]
+        if file.length < length and file.length % PAGE:
+            self.touched.add((number, file.length // PAGE))
+        file.resize(length)
+        self.touched = {(it, page) for it, page in self.touched if it != number or PAGE * page < length}
+        for space in self.spaces.values():
+            for page, view in space.items():
+                if view.own and view.backing[:2] == ("private", number) and PAGE * view.backing.page >= length:
+                    space[page] = replace(view, own=None)
 
     # accesses
 
@@ -290,7 +364,7 @@ class Model:
             return view.own
         kind, number, page = view.backing
         if view.backing.is_of_file():
-            return self.files[number].volatile[page]
+            return self.files[number].page(page)
         return self.objects.get((number, page), bytes(PAGE)) if kind == "common" else bytes(PAGE)
 
     def fault_of(self, space, kind, addr, width):
@@ -347,7 +421,7 @@ class Model:
 
 
 NUMBER = re.compile(r"[0-9]+|0x[0-9a-fA-F]+")
-FORMS = {"spawn": 0, "fork": 1, "exit": 1, "munmap": 3, "dontneed": 3, "fetch": 2, "faults": 0}
+FORMS = {"spawn": 0, "fork": 1, "exit": 1, "munmap": 3, "dontneed": 3, "truncate": 2, "fetch": 2, "faults": 0}
 
 
 class BadLine(Exception):
