@@ -3,6 +3,7 @@ through is hardware's, and all else is the pager's.
 
 What the pager can't be asked for is told here: a bad line, and the history of faults. And it is asked whether a store may be made, a touch, which is a load first. So a
 store's fault is the load's, with the cause of a store, where there is one: of a page that may not be stored to, and lies past its file's end, a BUS_ADRERR.
+No request is a truncate, so a trace may have none.
 """
 import os
 import struct
@@ -76,6 +77,11 @@ def numbers_of(name, words):
 
 def record_of(numbers):
     return struct.pack("<16Q", *numbers, *[0] * (16 - len(numbers)))
+
+
+def has_truncate(lines):
+    """Whether a line is a truncate, which no request asks for."""
+    return any(it[0] == "truncate" for it in filter(None, map(command_of, lines)))
 
 
 def requests(lines):

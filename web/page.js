@@ -367,8 +367,7 @@ var Page = (() => { // of the window, where tests find its state
   function pick(name, at = 0) {
     const it = data.examples.find((example) => example.name === name);
     fresh();
-    for (const field of ["specs", "frames", "slots", "mode"]) part(field).value = it[field];
-    part("layout").value = "new";
+    for (const field of ["specs", "layout", "frames", "slots", "mode"]) part(field).value = it[field];
     part("trace").value = it.text;
     part("example").value = name;
     Object.assign(state, { name, answers: it.answers });

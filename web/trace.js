@@ -3,8 +3,8 @@
 const Trace = (() => {
   const FORMS = [
     "spawn", "fork P", "exit P", "mmap P ADDR LEN PROT anon", "mmap P ADDR LEN PROT common", "mmap P ADDR LEN PROT private F OFF", "mmap P ADDR LEN PROT shared F OFF",
-    "munmap P ADDR LEN", "mprotect P ADDR LEN PROT", "dontneed P ADDR LEN", "msync P ADDR LEN sync", "msync P ADDR LEN async", "load P ADDR W", "store P ADDR W VALUE",
-    "fetch P ADDR", "faults",
+    "munmap P ADDR LEN", "mprotect P ADDR LEN PROT", "dontneed P ADDR LEN", "msync P ADDR LEN sync", "msync P ADDR LEN async", "truncate F LEN",
+    "load P ADDR W", "store P ADDR W VALUE", "fetch P ADDR", "faults",
   ];
   const KINDS = ["anon", "common", "private", "shared"];
   const NUMBER = /^(\d+|0x[0-9a-f]+)$/i, PERMISSION = /^[r-][w-][x-]$/;

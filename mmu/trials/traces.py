@@ -20,7 +20,7 @@ import random_lines
 from checked_runs import Disagreement, Setting, compared, written_out
 from emulator import make, make_kernel, make_swap, pagefmt
 from flat_model import File, command_of
-from tracing import TouchingModel, of_kernel, of_linux, traced
+from tracing import TouchingModel, has_truncate, of_kernel, of_linux, traced
 
 COUNTS = re.compile(r"kernel: accesses (\d+), let through by hardware (\d+), differing (\d+)")
 HARDWARE, LINUX = (of_kernel, "tracer"), (of_linux, "linux/pagemmu")
@@ -57,16 +57,21 @@ def of_example(example, run, mode="sv39"):
     with tempfile.TemporaryDirectory() as room:
         image, swap = f"{room}/image", f"{room}/swap"
         specs = [it.replace(":HANDLES", f":{TOP}/HANDLES") for it in example.specs or ["zero:0"]]
-        pagefmt("new", image, specs)
+        pagefmt(example.verb, image, specs)
         make_swap(swap, example.slots)
         ran = traced([it.encode() for it in example.lines], (image, swap), (example.frames, example.slots, mode), run)
         return *ran, written_out(room, len(example.specs))
 
 
+def asked_for(found):
+    """Those of some examples that requests can ask for."""
+    return [it for it in found if not has_truncate([line.encode() for line in it.lines])]
+
+
 def try_examples(tally, name, run):
     """Each reply of an example byte for byte, and what is durable after it."""
     sums = Counter()
-    found = examples.examples()
+    found = asked_for(examples.examples())
     for example, (texts, told, status, held) in zip(found, at_once(lambda it: of_example(it, run), found)):
         tally.check(f"{name}: {example.name}", ("\n".join(texts), status), ("\n".join(example.replies), 0))
         tally.check(f"{name}: {example.name}: what is durable", held, examples.durable(example))
@@ -76,7 +81,7 @@ def try_examples(tally, name, run):
 
 def try_longer_walks(tally):
     """In Sv48 the replies are the same, but of the example that has the last address of Sv39, and of those in so few frames that a table more may stall them."""
-    found = [it for it in examples.listed() if it.name != "address" and it.frames >= 64]
+    found = [it for it in asked_for(examples.listed()) if it.name != "address" and it.frames >= 64]
     for example, (texts, _, status, _) in zip(found, at_once(lambda it: of_example(it, HARDWARE, "sv48"), found)):
         tally.check(f"hardware, sv48: {example.name}", ("\n".join(texts), status), ("\n".join(example.replies), 0))
 
@@ -159,7 +164,7 @@ def try_controls(tally):
     unfenced = of_example(fence, (of_kernel, make_kernel("tracer", "unfenced")))[0]
     tally.check("fence.trace without fences", unfenced == fence.replies, False)
     for lie in LYING:
-        run, found = (of_kernel, make_kernel("tracer", lie)), [it for it in examples.listed() if len(it.lines) < 100]
+        run, found = (of_kernel, make_kernel("tracer", lie)), [it for it in asked_for(examples.listed()) if len(it.lines) < 100]
         noticed = sum("\n".join(texts) != "\n".join(it.replies) or status for it, (texts, _, status, _) in zip(found, at_once(lambda it: of_example(it, run), found)))
         tally.check(f"{lie}: examples that notice", noticed > 0, True)
         print(f"{lie}: {noticed} of {len(found)} examples notice")
