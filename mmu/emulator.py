@@ -14,6 +14,8 @@ QEMU = os.environ.get("QEMU", "qemu-system-riscv64")
 OLDEST = (8, 1)  # the first that can leave the accessed and dirty bits to software
 PAGE = 4096
 FILE_BYTES = 65536
+ROOM = 4096  # pages that files may get more
+LAYOUTS = {"2": "new", "4": "new4"}  # and the verbs of pagefmt that make them
 CPU = "rv64,h=true,svade=on,svadu=off"  # with a hypervisor, and accessed and dirty bits left to software
 
 
@@ -45,9 +47,20 @@ def pagefmt(verb, path, specs):
     subprocess.run([built(["pagefmt"]).path("pagefmt"), verb, path, *specs], check=True)
 
 
+def program_files(programs):
+    """The files of an image with these programs, and one to write in."""
+    return [*(f"ro:{it}" for it in programs), f"zero:{FILE_BYTES}"]
+
+
 def make_image(path, programs, verb="new"):
-    """An image with these programs, and a file to write in."""
-    pagefmt(verb, path, [*(f"ro:{it}" for it in programs), f"zero:{FILE_BYTES}"])
+    pagefmt(verb, path, program_files(programs))
+
+
+def make_roomy_image(path, specs, layout):
+    """An image of these files in this layout: of layout 4 with homes for files that grow."""
+    pagefmt(LAYOUTS[layout], path, specs)
+    if layout == "4":
+        os.truncate(path, os.path.getsize(path) + PAGE * ROOM)
 
 
 def make_swap(path, slots):

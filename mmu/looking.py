@@ -2,7 +2,7 @@
 and slots of the trace are those of the run, and its bytes are not, but for those that were touched."""
 import re
 
-from tracing import DONTNEED, FETCH, LOAD, MMAP, MPROTECT, MSYNC, MSYNC_ASYNC, MUNMAP, PERMISSIONS, PLACINGS, RANGED, SOURCES, SPAWN, TOUCH, reply_text
+from tracing import DONTNEED, FETCH, LOAD, MMAP, MPROTECT, MSYNC, MSYNC_ASYNC, MUNMAP, PERMISSIONS, PLACINGS, RANGED, SOURCES, SPAWN, TOUCH, TRUNCATE, reply_text
 
 LOGGED = re.compile(r"\x01([0-9 ]+)\r?\n")
 NAMES = {number: name for name, number in RANGED.items()}
@@ -23,7 +23,7 @@ def mapping_words(numbers):
 
 def words_of(numbers):
     """The words of a request that is one command."""
-    kind, pid, addr, length, prot, *_ = numbers
+    kind, pid, addr, length, prot, _, value, *_ = numbers
     if kind == SPAWN:
         return ["spawn"]
     if kind == MMAP:
@@ -35,6 +35,7 @@ def words_of(numbers):
         MSYNC_ASYNC: ["msync", *ranged, "async"],
         LOAD: ["load", *ranged],
         FETCH: ["fetch", pid, hex(addr)],
+        TRUNCATE: ["truncate", value, length],
     }.get(kind) or [NAMES[kind], *(ranged if kind in (MUNMAP, DONTNEED) else [pid])]
 
 

@@ -3,7 +3,6 @@ through is hardware's, and all else is the pager's.
 
 What the pager can't be asked for is told here: a bad line, and the history of faults. And it is asked whether a store may be made, a touch, which is a load first. So a
 store's fault is the load's, with the cause of a store, where there is one: of a page that may not be stored to, and lies past its file's end, a BUS_ADRERR.
-No request is a truncate, so a trace may have none.
 """
 import os
 import struct
@@ -18,7 +17,7 @@ from emulator import disk, qemu_words
 from flat_model import MOST_FAULTS, NOFRAMES, NOSWAP, NUMBERS, STOREDEV, SWAPDEV, Model, command_of
 
 RECORD, SECTOR = 128, 512  # bytes
-SPAWN, FORK, EXIT, MMAP, MUNMAP, MPROTECT, DONTNEED, MSYNC, MSYNC_ASYNC, LOAD, FETCH, TOUCH, STORE, END = range(14)
+SPAWN, FORK, EXIT, MMAP, MUNMAP, MPROTECT, DONTNEED, MSYNC, MSYNC_ASYNC, LOAD, FETCH, TOUCH, TRUNCATE, STORE, END = range(15)
 RANGED = {"munmap": MUNMAP, "dontneed": DONTNEED, "fork": FORK, "exit": EXIT, "fetch": FETCH, "spawn": SPAWN}
 SOURCES = ("anon", "common", "private", "shared")
 PLACINGS = (None, "fixed", "noreplace")
@@ -34,8 +33,8 @@ STORE_CAUSES = {"4": "6", "13": "15"}  # of loads
 class TouchingModel(Model):
     """The flat model, in which a store faults as the load before it does. That load may stall where the store would fault: so it takes the replies to the commands that come."""
 
-    def __init__(self, files, coming=()):
-        super().__init__(files)
+    def __init__(self, files, coming=(), of_model=()):
+        super().__init__(files, *of_model)
         self.coming = iter(coming)
 
     def answer(self, command):
@@ -70,6 +69,9 @@ def numbers_of(name, words):
         return [MSYNC_ASYNC if words[3] else MSYNC, *words[:3]]
     if name == "load":
         return [LOAD, *words]
+    if name == "truncate":
+        file, length = words
+        return [TRUNCATE, 0, 0, length, 0, 0, file]
     if name == "store":
         return [STORE, *words[:3], 0, 0, words[3]]
     return [RANGED[name], *words]
@@ -77,11 +79,6 @@ def numbers_of(name, words):
 
 def record_of(numbers):
     return struct.pack("<16Q", *numbers, *[0] * (16 - len(numbers)))
-
-
-def has_truncate(lines):
-    """Whether a line is a truncate, which no request asks for."""
-    return any(it[0] == "truncate" for it in filter(None, map(command_of, lines)))
 
 
 def requests(lines):

@@ -1,7 +1,7 @@
 /* The calls of programs (mmu/user/user.h): the number in a7, up to seven words in a0 to a6, and the result in a0. */
 #include "kernel.h"
 
-enum call { WRITE = 1, END, CLONE, MAP, UNMAP, PROTECT, DISCARD, SYNC, WAIT, YIELD, GETPID, END_ALL };
+enum call { WRITE = 1, END, CLONE, MAP, UNMAP, PROTECT, DISCARD, SYNC, WAIT, YIELD, GETPID, END_ALL, RESIZE };
 enum { MOST_WRITTEN = 65536 };
 
 static long console_write(u64 from, u64 n) {
@@ -32,6 +32,8 @@ static long range_call(enum kind kind, const u64 *words, u64 pid) {
   return result_of(ask((struct request){kind, pid, words[0], words[1], .prot = words[2]}));
 }
 
+static long resize(const u64 *words) { return result_of(ask((struct request){TRUNCATE, .value = words[0], .len = words[1]})); }
+
 /* The calls that return to the process that made them. */
 static long result(enum call number, const u64 *words, u64 pid) {
   switch (number) {
@@ -42,6 +44,7 @@ static long result(enum call number, const u64 *words, u64 pid) {
   case PROTECT: return range_call(MPROTECT, words, pid);
   case DISCARD: return range_call(DONTNEED, words, pid);
   case SYNC: return range_call(words[2] ? MSYNC_ASYNC : MSYNC, words, pid);
+  case RESIZE: return resize(words);
   case GETPID: return pid;
   default: return -ENOSYS;
   }

@@ -51,7 +51,7 @@ int disk_write(int disk, u64 at, const void *from, u64 n);
 int disk_flush(int disk);
 
 /* pager.c: the proved program */
-enum kind { SPAWN, FORK, EXIT, MMAP, MUNMAP, MPROTECT, DONTNEED, MSYNC, MSYNC_ASYNC, LOAD, FETCH, TOUCH };
+enum kind { SPAWN, FORK, EXIT, MMAP, MUNMAP, MPROTECT, DONTNEED, MSYNC, MSYNC_ASYNC, LOAD, FETCH, TOUCH, TRUNCATE };
 enum outcome { PROCESS, ADDRESS, DONE, VALUE, FAULT, REFUSED, STALLED, HALTED, MALFORMED, HISTORY };
 enum source { ANON, COMMON, PRIVATE, SHARED };
 enum placing { HINT, FIXED, NOREPLACE };

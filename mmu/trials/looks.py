@@ -12,7 +12,7 @@ from devices import SECONDS
 from looking import steps
 from traces import at_once, loaded
 
-PROGRAMS = {"hello": 64, "family": 64, "bank": 24, "hostile": 400}  # and frames
+PROGRAMS = {"hello": 64, "family": 64, "bank": 24, "grow": 24, "hostile": 400}  # and frames
 MEASURED = re.compile(r"kernel: (\w+), ([\w ]+): requests (\d+), instructions of each (\d+) to (\d+), on average (\d+)")
 
 look = loaded(f"{MMU}/look")

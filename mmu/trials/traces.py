@@ -19,8 +19,9 @@ sys.path[:0] = [MMU, f"{TOP}/bench"]
 import random_lines
 from checked_runs import Disagreement, Setting, compared, written_out
 from emulator import make, make_kernel, make_swap, pagefmt
-from flat_model import File, command_of
-from tracing import TouchingModel, has_truncate, of_kernel, of_linux, traced
+from flat_model import command_of
+from random_images import OLD, POOL, SPARE, formatted, widened
+from tracing import TouchingModel, of_kernel, of_linux, traced
 
 COUNTS = re.compile(r"kernel: accesses (\d+), let through by hardware (\d+), differing (\d+)")
 HARDWARE, LINUX = (of_kernel, "tracer"), (of_linux, "linux/pagemmu")
@@ -63,15 +64,10 @@ def of_example(example, run, mode="sv39"):
         return *ran, written_out(room, len(example.specs))
 
 
-def asked_for(found):
-    """Those of some examples that requests can ask for."""
-    return [it for it in found if not has_truncate([line.encode() for line in it.lines])]
-
-
 def try_examples(tally, name, run):
     """Each reply of an example byte for byte, and what is durable after it."""
     sums = Counter()
-    found = asked_for(examples.examples())
+    found = examples.examples()
     for example, (texts, told, status, held) in zip(found, at_once(lambda it: of_example(it, run), found)):
         tally.check(f"{name}: {example.name}", ("\n".join(texts), status), ("\n".join(example.replies), 0))
         tally.check(f"{name}: {example.name}: what is durable", held, examples.durable(example))
@@ -81,7 +77,7 @@ def try_examples(tally, name, run):
 
 def try_longer_walks(tally):
     """In Sv48 the replies are the same, but of the example that has the last address of Sv39, and of those in so few frames that a table more may stall them."""
-    found = [it for it in asked_for(examples.listed()) if it.name != "address" and it.frames >= 64]
+    found = [it for it in examples.listed() if it.name != "address" and it.frames >= 64]
     for example, (texts, _, status, _) in zip(found, at_once(lambda it: of_example(it, HARDWARE, "sv48"), found)):
         tally.check(f"hardware, sv48: {example.name}", ("\n".join(texts), status), ("\n".join(example.replies), 0))
 
@@ -92,41 +88,30 @@ def try_script(tally):
     tally.check("mmu/trace", (done.stdout, done.returncode), (examples.read("examples/faults.replies"), 0))
 
 
-def random_files(rng, room):
-    """The specs of one to four files, and the files of the model."""
-    specs, files = [], []
-    for k in range(rng.randrange(1, 5)):
-        is_read_only, content = rng.random() < 0.3, rng.randbytes(rng.choice((0, 1, 4096, 5000, 8192, rng.randrange(40000))))
-        with open(f"{room}/file{k}", "wb") as file:
-            file.write(content)
-        specs.append(f"{'ro' if is_read_only else 'rw'}:{room}/file{k}")
-        files.append(File.new(is_read_only, content))
-    return specs, files
-
-
-def crowded_lines(rng, length, files):
+def crowded_lines(rng, length, files, truncates):
     """Lines of three processes, mostly accesses to pages that stay mapped: hardware lets many of them through."""
     ranges = [f"mmap {pid} {at:#x} {12 * random_lines.PAGE} rwx {kind} fixed" for pid in (1, 2, 3) for at, kind in ((0x10000, "anon"), (0x1C000, "private 0 0"))]
-    rest = (random_lines.access(rng, rng.randrange(1, 4), 16) if rng.random() < 0.96 else random_lines.line(rng, 16, files, 3) for _ in range(length))
+    rest = (random_lines.access(rng, rng.randrange(1, 4), 16) if rng.random() < 0.96 else random_lines.line(rng, 16, files, 3, truncates) for _ in range(length))
     return [it.encode() for it in ("spawn", "spawn", "spawn", *ranges, *rest)]
 
 
-def random_lines_of(rng, length, files):
+def random_lines_of(rng, length, files, truncates):
     """Lines as bench/soak has them, or crowded ones."""
-    return random_lines.trace(rng, length, files).split(b"\n")[:-1] if rng.random() < 0.5 else crowded_lines(rng, length, files)
+    return random_lines.trace(rng, length, files, truncates).split(b"\n")[:-1] if rng.random() < 0.5 else crowded_lines(rng, length, files, truncates)
 
 
 def random_case(seed, length):
-    """A random trace on hardware: what the kernel told, and what is wrong with replies and files, or none."""
+    """A random trace on hardware, over an image as bench/soak makes them: what the kernel told, and what is wrong with replies and files, or none."""
     rng = random.Random(seed)
     with tempfile.TemporaryDirectory() as room:
-        specs, files = random_files(rng, room)
-        pagefmt(rng.choice(("new", "new4")), f"{room}/image", specs)
-        lines = random_lines_of(rng, length, len(files))
-        setting = Setting(rng.choice((8, 10, 12, 16, 64, 1024)), rng.choice((0, 2, 16, 64)), False, False)
+        layout = rng.choice((OLD, POOL))
+        files = formatted(rng, room, layout.words)
+        homes = widened(room, rng.choice((0, SPARE))) if layout is POOL else 0
+        lines = random_lines_of(rng, length, len(files), layout.truncates)
+        setting = Setting(rng.choice((8, 10, 12, 16, 64, 1024)), rng.choice((0, 2, 16, 64)), False, False, homes)
         make_swap(f"{room}/swap", setting.slots)
         texts, told, status = traced(lines, (f"{room}/image", f"{room}/swap"), (setting.frames, setting.slots, "sv39"), HARDWARE)
-        model = TouchingModel(files, [text for line, text in zip(lines, texts) if command_of(line)])
+        model = TouchingModel(files, [text for line, text in zip(lines, texts) if command_of(line)], layout.of_model)
         try:
             compared(model, lines, "\n".join(texts).split("\n"), setting)
             is_durable = written_out(room, len(files)) == model.durable()
@@ -164,7 +149,7 @@ def try_controls(tally):
     unfenced = of_example(fence, (of_kernel, make_kernel("tracer", "unfenced")))[0]
     tally.check("fence.trace without fences", unfenced == fence.replies, False)
     for lie in LYING:
-        run, found = (of_kernel, make_kernel("tracer", lie)), [it for it in asked_for(examples.listed()) if len(it.lines) < 100]
+        run, found = (of_kernel, make_kernel("tracer", lie)), [it for it in examples.listed() if len(it.lines) < 100]
         noticed = sum("\n".join(texts) != "\n".join(it.replies) or status for it, (texts, _, status, _) in zip(found, at_once(lambda it: of_example(it, run), found)))
         tally.check(f"{lie}: examples that notice", noticed > 0, True)
         print(f"{lie}: {noticed} of {len(found)} examples notice")

@@ -1,7 +1,7 @@
 /* The calls, and what is built on them. */
 #include "user.h"
 
-enum { CALL_WRITE = 1, CALL_EXIT, CALL_FORK, CALL_MMAP, CALL_MUNMAP, CALL_MPROTECT, CALL_DONTNEED, CALL_MSYNC, CALL_WAIT, CALL_YIELD, CALL_GETPID, CALL_END_ALL };
+enum { CALL_WRITE = 1, CALL_EXIT, CALL_FORK, CALL_MMAP, CALL_MUNMAP, CALL_MPROTECT, CALL_DONTNEED, CALL_MSYNC, CALL_WAIT, CALL_YIELD, CALL_GETPID, CALL_END_ALL, CALL_TRUNCATE };
 
 struct results { long first, second; };
 
@@ -33,6 +33,7 @@ long munmap(void *at, u64 n) { return kernel_call(CALL_MUNMAP, (long)at, n, 0, 0
 long mprotect(void *at, u64 n, int prot) { return kernel_call(CALL_MPROTECT, (long)at, n, prot, 0, 0, 0, 0); }
 long dontneed(void *at, u64 n) { return kernel_call(CALL_DONTNEED, (long)at, n, 0, 0, 0, 0, 0); }
 long msync(void *at, u64 n) { return kernel_call(CALL_MSYNC, (long)at, n, 0, 0, 0, 0, 0); }
+long truncate(u64 file, u64 length) { return kernel_call(CALL_TRUNCATE, file, length, 0, 0, 0, 0, 0); }
 void yield(void) { kernel_call(CALL_YIELD, 0, 0, 0, 0, 0, 0, 0); }
 long getpid(void) { return kernel_call(CALL_GETPID, 0, 0, 0, 0, 0, 0, 0); }
 

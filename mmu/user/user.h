@@ -16,6 +16,7 @@ long munmap(void *at, u64 n);
 long mprotect(void *at, u64 n, int prot);
 long dontneed(void *at, u64 n);
 long msync(void *at, u64 n);
+long truncate(u64 file, u64 length);                      /* of an image of layout 4 */
 long wait(int *status);
 void yield(void);
 long getpid(void);

@@ -2,8 +2,8 @@
    to the disks. */
 #include "../kernel/kernel.h"
 
-enum { KINDS = TOUCH + 1, READ = 1, WRITTEN = 2, CASES = 4 };
-static const char *kinds[] = {"spawn", "fork", "exit", "mmap", "munmap", "mprotect", "dontneed", "msync", "msync async", "load", "fetch", "touch"};
+enum { KINDS = TRUNCATE + 1, READ = 1, WRITTEN = 2, CASES = 4 };
+static const char *kinds[] = {"spawn", "fork", "exit", "mmap", "munmap", "mprotect", "dontneed", "msync", "msync async", "load", "fetch", "touch", "truncate"};
 static const char *cases[] = {"no disk", "a page read", "a page given up and written", "one written and one read"};
 static struct sum { u64 count, total, least, most; } sums[KINDS][CASES];
 static u64 of_disks, done_to_disks;

@@ -2,7 +2,7 @@
    asked again, and has to agree. All other requests are the pager's. They stand on the third disk, in records which the replies take the place of. */
 #include "../kernel/kernel.h"
 
-enum { STORE = TOUCH + 1, END, RECORDS = 512, WIDEST = 8 };
+enum { STORE = TRUNCATE + 1, END, RECORDS = 512, WIDEST = 8 };
 
 struct record {
   union {
