@@ -7,11 +7,9 @@ ghost use Rattle.pool_journal.specs.Sizes.{HasPool};
 
 use crate::run_disk::RunDisk;
 use disk_model::{DiskFault, SectorDisk, SimDisk};
-use pool_journal::{FIRST_HOMES, PoolJournal, PoolSizes};
-use std::alloc::Global;
+use pool_journal::{PoolJournal, PoolSizes};
 use std::fmt::Debug;
 use std::process::Abort;
-use std::test::Fail;
 use sync_journal::{CommitFault, PageSource, RecoverFault, SourceFault};
 
 /// The sectors of a store with maps of one block, but for its homes, as the format has it.
@@ -20,13 +18,11 @@ pub(crate) const FRONT: u64 = 16 + 8080;
 /// How far the second map and body lie behind the first ones.
 const SECOND: u64 = 4040;
 
-/// Fails where something does not hold.
-pub(crate) fn expect(holds: bool, otherwise: &str) -> Result<(), Fail> {
-    if holds {
-        Ok(())
-    } else {
-        Err(Fail::new(format_args!("{otherwise}")))
-    }
+/// Ends the test where something does not hold.
+pub(crate) fn expect(rt: &impl Abort, holds: bool, otherwise: &str)
+    ensures { holds ≡ true }
+{
+    assert!(rt; holds, "{otherwise}");
 }
 
 /// Ends the test where the value isn't the one that is wanted. A test that said `assert_eq!` itself would be proved to end well at each place.
@@ -39,12 +35,6 @@ pub(crate) fn equal<T: PartialEq + Debug + Drop>(rt: &impl Abort, got: T, want: 
 pub(crate) struct Filled {
     pub(crate) byte: u8,
     pub(crate) fails: bool,
-}
-
-impl Filled {
-    pub(crate) fn with(byte: u8) -> Filled {
-        Filled { byte, fails: false }
-    }
 }
 
 impl PageSource for Filled {
@@ -108,35 +98,42 @@ fn sizes_on(disk: &RunDisk) -> PoolSizes
 #[derive(Drop)]
 pub(crate) struct Pool {
     pub(crate) disk: RunDisk,
-    journal: PoolJournal,
+    pub(crate) journal: PoolJournal,
     ghost is: { IsPoolJournal journal },
     ghost has: { HasPool ⟦<RunDisk as SectorDisk>⟧ journal.sizes disk },
 }
 
 impl Pool {
     /// A new one with so many homes of zeros.
-    pub(crate) fn new(alloc: Global, homes: u32) -> Result<Pool, Fail> {
-        let mut disk = RunDisk::new(SimDisk::new(alloc, FRONT + 8 * u64::from(homes))?);
+    pub(crate) fn new(rt: &(impl AllocGlobal + Abort), homes: u32) -> Pool {
+        let sectors = FRONT + 8 * u64::from(homes);
+        let mut disk = RunDisk::new(SimDisk::new(rt.alloc(), sectors).expect(rt, "memory"));
         let sizes = sizes_on(&disk);
-        PoolJournal::clear(&mut disk, sizes)?;
-        disk.sync()?;
-        let journal = PoolJournal::new(alloc, sizes)?;
-        Pool { disk, journal }.left(alloc, None)
+        PoolJournal::clear(&mut disk, sizes).expect(rt, "an empty pool");
+        disk.sync().expect(rt, "a sync");
+        let journal = PoolJournal::new(rt.alloc(), sizes).expect(rt, "memory");
+        Pool { disk, journal }.left(rt, None)
     }
 
-    /// Commits pages to these homes, where they rise, the device has them and as many slots are free.
+    /// Commits pages to these homes, where they rise, the device has them and as many slots are free. Else it ends the test.
     pub(crate) fn commit(
         &mut self,
+        rt: &impl Abort,
         homes: &[u32],
         source: &mut Filled,
-    ) -> Result<Result<(), CommitFault>, Fail> {
-        if !are_rising(homes, self.journal.sizes().homes) {
-            return Err(Fail::new("homes that don't rise"));
-        }
-        if homes.len() > self.journal.free_pages() {
-            return Err(Fail::new("too many homes"));
-        }
-        Ok(self.journal.commit(&mut self.disk, homes, source))
+    ) -> Result<(), CommitFault> {
+        let limit = self.journal.sizes().homes;
+        expect(rt, are_rising(homes, limit), "homes that don't rise");
+        let is_room = homes.len() <= self.journal.free_pages();
+        expect(rt, is_room, "too many homes");
+        self.journal.commit(&mut self.disk, homes, source)
+    }
+
+    /// Commits pages of this byte to these homes, and ends the test where that fails.
+    pub(crate) fn fill(&mut self, rt: &impl Abort, homes: &[u32], byte: u8, otherwise: &str) {
+        let mut source = Filled { byte, fails: false };
+        let done = self.commit(rt, homes, &mut source);
+        expect(rt, done.is_ok(), otherwise);
     }
 
     /// Takes it up as it stands, and writes nothing.
@@ -156,13 +153,17 @@ impl Pool {
         self.journal.tidy(&mut self.disk)
     }
 
-    /// Makes so many homes zeros from one on, where the device has them.
-    pub(crate) fn blank(&mut self, first: u32, count: u32) -> Result<Result<(), DiskFault>, Fail> {
+    /// Makes so many homes zeros from one on, where the device has them. Else it ends the test.
+    pub(crate) fn blank(
+        &mut self,
+        rt: &impl Abort,
+        first: u32,
+        count: u32,
+    ) -> Result<(), DiskFault> {
         let homes = self.journal.sizes().homes;
-        if first > homes || count > homes - first {
-            return Err(Fail::new("homes that the device doesn't have"));
-        }
-        Ok(self.journal.blank(&mut self.disk, first, count))
+        let has_them = first <= homes && count <= homes - first;
+        expect(rt, has_them, "homes that the device doesn't have");
+        self.journal.blank(&mut self.disk, first, count)
     }
 
     /// The device fails in that call from now on, the first being 1.
@@ -174,23 +175,6 @@ impl Pool {
     /// Whether a sector is this byte 512 times.
     pub(crate) fn holds(&self, n: u64, byte: u8) -> bool {
         n < self.disk.disk.sectors() && *self.disk.disk.sector(n) == [byte; 512]
-    }
-
-    /// How many pages the next commit may take.
-    pub(crate) fn free_pages(&self) -> usize {
-        self.journal.free_pages()
-    }
-
-    /// From which home on none has a slot.
-    pub(crate) fn homes_given(&self) -> u32 {
-        self.journal.homes_given()
-    }
-
-    /// Which of the first homes, so many, have a slot.
-    pub(crate) fn first_given(&self, homes: u32) -> [bool; FIRST_HOMES]
-        requires { homes ≤ 256 }
-    {
-        self.journal.first_given(homes)
     }
 
     /// The byte that fills a page, and 255 where it can't be read or is not of one byte.
@@ -218,16 +202,17 @@ impl Pool {
 
     /// What a stop leaves, with these bytes in each unsynced sector of the gate, the maps and the first slots, or else those that were last synced. The
     /// journal is a new one.
-    pub(crate) fn left(&self, alloc: Global, filling: Option<[u8; 512]>) -> Result<Pool, Fail> {
-        let mut chosen = Vec::new(alloc);
+    pub(crate) fn left(&self, rt: &(impl AllocGlobal + Abort), filling: Option<[u8; 512]>) -> Pool {
+        let mut chosen = Vec::new(rt.alloc());
         if let Some(bytes) = filling {
             for n in 0..48 {
-                chosen.push((n, bytes))?;
-                chosen.push((n + SECOND, bytes))?;
+                chosen.push((n, bytes)).expect(rt, "memory");
+                chosen.push((n + SECOND, bytes)).expect(rt, "memory");
             }
         }
-        let disk = RunDisk::new(self.disk.disk.left(alloc, chosen.as_slice())?);
-        let journal = PoolJournal::new(alloc, self.journal.sizes())?;
-        Ok(Pool { disk, journal })
+        let left = self.disk.disk.left(rt.alloc(), chosen.as_slice());
+        let disk = RunDisk::new(left.expect(rt, "memory"));
+        let journal = PoolJournal::new(rt.alloc(), self.journal.sizes()).expect(rt, "memory");
+        Pool { disk, journal }
     }
 }

@@ -1,7 +1,6 @@
 //! Openings, and what stands after stops.
 use crate::bench::{Filled, Pool, equal, expect};
-use std::alloc::Global;
-use std::test::Fail;
+use std::process::Abort;
 use sync_journal::{CommitFault, RecoverFault};
 
 /// Four homes, in which two commits put these bytes, the second in homes 1 and 2.
@@ -30,26 +29,27 @@ fn fillings() -> [Option<[u8; 512]>; 5] {
 }
 
 /// A pool after both commits, of which the second fails at that call, if it is one of its calls.
-fn committed(alloc: Global, call: u64) -> Result<(Pool, Result<(), CommitFault>), Fail> {
-    let mut pool = Pool::new(alloc, 4)?;
-    let mut source = Filled::with(1);
-    expect(pool.commit(&[0, 1], &mut source)?.is_ok(), "the first")?;
-    source.byte = 2;
+fn committed(rt: &(impl AllocGlobal + Abort), call: u64) -> (Pool, Result<(), CommitFault>) {
+    let mut pool = Pool::new(rt, 4);
+    pool.fill(rt, &[0, 1], 1, "the first");
     pool.fail_in(call);
-    let done = pool.commit(&[1, 2], &mut source)?;
-    Ok((pool, done))
+    let mut source = Filled {
+        byte: 2,
+        fails: false,
+    };
+    let done = pool.commit(rt, &[1, 2], &mut source);
+    (pool, done)
 }
 
 #[test]
-fn a_stop_within_a_commit_leaves_the_pages_before_or_after(rt: HostRuntime) -> Result<(), Fail> {
-    let alloc = rt.alloc();
+fn a_stop_within_a_commit_leaves_the_pages_before_or_after(rt: HostRuntime) {
     // A sector of a page and of the map, a sync, the gate, and a sync.
     for (call, count) in [(1, 2), (16, 2), (17, 2), (25, 2), (GATE, 5), (GATE + 1, 5)] {
-        let (pool, done) = committed(alloc, call)?;
+        let (pool, done) = committed(&rt, call);
         equal(&rt, done, Err(CommitFault::Device));
         for filling in fillings().into_iter().take(count) {
-            let mut left = pool.left(alloc, filling)?;
-            expect(left.recover().is_ok(), "a recovery")?;
+            let mut left = pool.left(&rt, filling);
+            expect(&rt, left.recover().is_ok(), "a recovery");
             // The second commit names the first map, as all bytes of the gate do but those of the open one.
             let after = call >= GATE && filling.is_some() && filling != fillings()[4];
             equal(
@@ -59,22 +59,21 @@ fn a_stop_within_a_commit_leaves_the_pages_before_or_after(rt: HostRuntime) -> R
             );
         }
     }
-    Ok(())
 }
 
 #[test]
-fn an_opening_writes_nothing_until_it_renews(rt: HostRuntime) -> Result<(), Fail> {
-    let (pool, done) = committed(rt.alloc(), 0)?;
-    expect(done.is_ok(), "the second commit")?;
-    let mut left = pool.left(rt.alloc(), None)?;
-    expect(left.resume().is_ok(), "an opening")?;
+fn an_opening_writes_nothing_until_it_renews(rt: HostRuntime) {
+    let (pool, done) = committed(&rt, 0);
+    expect(&rt, done.is_ok(), "the second commit");
+    let mut left = pool.left(&rt, None);
+    expect(&rt, left.resume().is_ok(), "an opening");
     // The gate, and a map.
     let disk = &left.disk.disk;
     equal(&rt, (disk.calls(), disk.writes(), disk.syncs()), (9, 0, 0));
-    equal(&rt, left.free_pages(), 1008 - 3);
+    equal(&rt, left.journal.free_pages(), 1008 - 3);
     equal(&rt, left.bytes([0, 1, 2, 3]), AFTER);
     // A map and the gate, each with a sync behind it.
-    expect(left.renew().is_ok(), "a map written anew")?;
+    expect(&rt, left.renew().is_ok(), "a map written anew");
     let disk = &left.disk;
     equal(
         &rt,
@@ -83,29 +82,25 @@ fn an_opening_writes_nothing_until_it_renews(rt: HostRuntime) -> Result<(), Fail
     );
     equal(&rt, left.bytes([0, 1, 2, 3]), AFTER);
     // Where no page stands in a slot there is nothing to renew.
-    let mut empty = Pool::new(rt.alloc(), 4)?;
-    expect(empty.recover().is_ok(), "a recovery")?;
+    let mut empty = Pool::new(&rt, 4);
+    expect(&rt, empty.recover().is_ok(), "a recovery");
     equal(&rt, empty.disk.disk.writes(), 0);
-    Ok(())
 }
 
 #[test]
-fn a_stop_within_a_recovery_leaves_the_same_pages(rt: HostRuntime) -> Result<(), Fail> {
-    let alloc = rt.alloc();
-    let (pool, done) = committed(alloc, 0)?;
-    expect(done.is_ok(), "the second commit")?;
+fn a_stop_within_a_recovery_leaves_the_same_pages(rt: HostRuntime) {
+    let (pool, done) = committed(&rt, 0);
+    expect(&rt, done.is_ok(), "the second commit");
     // A sync, gate and map read, a map, a sync, the gate, and a sync.
     for (call, count) in [(1, 1), (2, 1), (3, 1), (11, 2), (19, 2), (20, 5), (21, 5)] {
         for filling in fillings().into_iter().take(count) {
-            let mut left = pool.left(alloc, None)?;
+            let mut left = pool.left(&rt, None);
             left.fail_in(call);
             equal(&rt, left.recover(), Err(RecoverFault::Device));
-            let mut again = left.left(alloc, filling)?;
-            expect(again.recover().is_ok(), "a recovery")?;
-            let done = again.commit(&[3], &mut Filled::with(3))?;
-            expect(done.is_ok(), "a commit")?;
+            let mut again = left.left(&rt, filling);
+            expect(&rt, again.recover().is_ok(), "a recovery");
+            again.fill(&rt, &[3], 3, "a commit");
             equal(&rt, again.bytes([0, 1, 2, 3]), [1, 2, 2, 3]);
         }
     }
-    Ok(())
 }
