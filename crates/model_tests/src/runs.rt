@@ -1,5 +1,4 @@
 //! Machines of 8 to 12 frames under random commands.
-ghost use Rattle.std.specs.Prelude.{ℕ, IfOk};
 ghost use Rattle.machine.specs.Machine.{IsSoundMachine};
 
 use crate::draws::{Draws, FILE_PAGES};
@@ -7,8 +6,7 @@ use crate::standing::{compare, image};
 use disk_model::{SectorDisk, SimDisk, WriteZeros};
 use flat_model::Flat;
 use machine::{Config, Machine};
-use std::alloc::Global;
-use std::test::Fail;
+use std::process::Abort;
 use sync_journal::PAGE_LIMIT;
 use vm_types::{Command, Mode, Reply, Stall};
 
@@ -16,17 +14,17 @@ use vm_types::{Command, Mode, Reply, Stall};
 const COMMANDS: usize = 400;
 
 /// A machine over an image of a file, whose devices are such.
-fn booted(alloc: Global, setting: Setting) -> Result<Machine<SimDisk, SimDisk>, Fail>
-    ensures { IfOk result (λ m. IsSoundMachine ⟦<SimDisk as SectorDisk>⟧ ⟦<SimDisk as SectorDisk>⟧ m) }
+fn booted(rt: &(impl AllocGlobal + Abort), setting: Setting) -> Machine<SimDisk, SimDisk>
+    ensures { IsSoundMachine ⟦<SimDisk as SectorDisk>⟧ ⟦<SimDisk as SectorDisk>⟧ result }
 {
     let config = setting.config;
-    let mut swap = SimDisk::new(alloc, 8 * u64::from(config.slots))?;
+    let mut swap = SimDisk::new(rt.alloc(), 8 * u64::from(config.slots)).expect(rt, "memory");
     if let Some(call) = setting.failing {
         swap.fail_at(call);
     }
-    match Machine::boot(alloc, config, image(alloc, setting.resizes)?, swap) {
-        Ok(machine) => Ok(machine),
-        Err((fault, _)) => Err(Fail::new(format_args!("boot: {fault:?}"))),
+    match Machine::boot(rt.alloc(), config, image(rt, setting.resizes), swap) {
+        Ok(machine) => machine,
+        Err((fault, _)) => panic!(rt; "boot: {fault:?}"),
     }
 }
 
@@ -63,32 +61,34 @@ struct Setting {
 }
 
 /// Whether a command may stall so on a machine that shows what the model does: it would succeed.
-fn is_due(setting: Setting, flat: &Flat, command: Command, stall: Stall) -> Result<bool, Fail> {
-    let mut after = flat.clone()?;
-    let reply = after.step(command)?;
-    Ok(is_success(reply) && may_stall(setting, flat, &after, stall))
+fn is_due(rt: &impl Abort, setting: Setting, flat: &Flat, command: Command, stall: Stall) -> bool {
+    let mut after = flat.clone().expect(rt, "memory");
+    let reply = after.step(command).expect(rt, "memory");
+    is_success(reply) && may_stall(setting, flat, &after, stall)
 }
 
 /// Carries out a command, and has its reply be the model's, or a stall that may be, which is returned.
 fn go_on<D: WriteZeros, E: SectorDisk>(
+    rt: &impl Abort,
     machine: &mut Machine<D, E>,
     setting: Setting,
     flat: &mut Flat,
     command: Command,
-) -> Result<Option<Stall>, Fail>
+) -> Option<Stall>
     requires sound { IsSoundMachine D.SectorDisk E.SectorDisk machine.old }
     ensures sound { IsSoundMachine D.SectorDisk E.SectorDisk machine.new }
 {
     let reply = machine.step(command);
     match reply {
-        Reply::Stalled(stall) if is_due(setting, flat, command, stall)? => return Ok(Some(stall)),
+        Reply::Stalled(stall) if is_due(rt, setting, flat, command, stall) => return Some(stall),
         _ => {}
     }
-    let wanted = flat.step(command)?;
-    if reply == wanted {
-        return Ok(None);
-    }
-    Err(Fail::new(format_args!("{command:?} in {setting:?}: {reply:?} where {wanted:?} is wanted")))
+    let wanted = flat.step(command).expect(rt, "memory");
+    assert!(rt;
+        reply == wanted,
+        "{command:?} in {setting:?}: {reply:?} where {wanted:?} is wanted"
+    );
+    None
 }
 
 /// How many commands of a run stalled, and how many of them for the swap device.
@@ -99,23 +99,25 @@ struct Told {
 }
 
 /// A run of random commands, which leaves the file as the model says.
-fn run(alloc: Global, setting: Setting, seed: u64) -> Result<Told, Fail> {
+fn run(rt: &(impl AllocGlobal + Abort), setting: Setting, seed: u64) -> Told {
     let mode = setting.config.mode;
     let lengths = [4096 * FILE_PAGES];
-    let mut flat = Flat::new(alloc, mode, PAGE_LIMIT, setting.resizes, &lengths)?;
-    let mut machine = booted(alloc, setting)?;
-    let told = carry_out(&mut machine, setting, &mut flat, seed)?;
-    compare(alloc, machine.into_store(), &flat)?;
-    Ok(told)
+    let flat = Flat::new(rt.alloc(), mode, PAGE_LIMIT, setting.resizes, &lengths);
+    let mut flat = flat.expect(rt, "memory");
+    let mut machine = booted(rt, setting);
+    let told = carry_out(rt, &mut machine, setting, &mut flat, seed);
+    compare(rt, machine.into_store(), &flat);
+    told
 }
 
 /// Carries out random commands one after another.
 fn carry_out<D: WriteZeros, E: SectorDisk>(
+    rt: &impl Abort,
     machine: &mut Machine<D, E>,
     setting: Setting,
     flat: &mut Flat,
     seed: u64,
-) -> Result<Told, Fail>
+) -> Told
     requires sound { IsSoundMachine D.SectorDisk E.SectorDisk machine.old }
     ensures sound { IsSoundMachine D.SectorDisk E.SectorDisk machine.new }
 {
@@ -128,14 +130,14 @@ fn carry_out<D: WriteZeros, E: SectorDisk>(
         let Some(command) = draws.command(flat.processes()) else {
             continue;
         };
-        if let Some(stall) = go_on(machine, setting, flat, command)? {
+        if let Some(stall) = go_on(rt, machine, setting, flat, command) {
             told.stalls = told.stalls.wrapping_add(1);
             if stall == Stall::SwapDevice {
                 told.swap_device = told.swap_device.wrapping_add(1);
             }
         }
     }
-    Ok(told)
+    told
 }
 
 /// Memory for all tables, but not for all pages, and slots for them.
@@ -152,7 +154,7 @@ fn enough(mode: Mode) -> Config {
 }
 
 /// Every reply is the flat model's, or a stall that memory or slots are short for: runs in 8 to 12 frames with few slots and with many.
-fn few_frames(alloc: Global, mode: Mode) -> Result<(), Fail> {
+fn few_frames(rt: &(impl AllocGlobal + Abort), mode: Mode) {
     for seed in 0..6 {
         for frames in 8..13 {
             for slots in [0, 3, 16] {
@@ -165,26 +167,25 @@ fn few_frames(alloc: Global, mode: Mode) -> Result<(), Fail> {
                     resizes: seed % 2 == 1,
                     failing: None,
                 };
-                run(alloc, setting, 100 * seed + u64::from(frames))?;
+                run(rt, setting, 100 * seed + u64::from(frames));
             }
         }
     }
-    Ok(())
 }
 
 #[test]
-fn few_frames_and_random_commands(rt: HostRuntime) -> Result<(), Fail> {
-    few_frames(rt.alloc(), Mode::Sv39)
+fn few_frames_and_random_commands(rt: HostRuntime) {
+    few_frames(&rt, Mode::Sv39);
 }
 
 #[test]
-fn few_frames_in_four_levels(rt: HostRuntime) -> Result<(), Fail> {
-    few_frames(rt.alloc(), Mode::Sv48)
+fn few_frames_in_four_levels(rt: HostRuntime) {
+    few_frames(&rt, Mode::Sv48);
 }
 
 /// Where there is enough no command stalls.
 #[test]
-fn nothing_stalls_where_there_is_enough(rt: HostRuntime) -> Result<(), Fail> {
+fn nothing_stalls_where_there_is_enough(rt: HostRuntime) {
     for mode in [Mode::Sv39, Mode::Sv48] {
         for seed in 0..10 {
             let setting = Setting {
@@ -192,17 +193,14 @@ fn nothing_stalls_where_there_is_enough(rt: HostRuntime) -> Result<(), Fail> {
                 resizes: seed % 2 == 1,
                 failing: None,
             };
-            let told = run(rt.alloc(), setting, seed)?;
-            if told.stalls != 0 {
-                return Err(Fail::new(format_args!("{mode:?}, seed {seed}: {told:?}")));
-            }
+            let told = run(&rt, setting, seed);
+            assert!(rt; told.stalls == 0, "{mode:?}, seed {seed}: {told:?}");
         }
     }
-    Ok(())
 }
 
 /// A swap device that fails one call stalls one command at most, which has changed nothing.
-fn failing_once(alloc: Global, mode: Mode) -> Result<(), Fail> {
+fn failing_once(rt: &(impl AllocGlobal + Abort), mode: Mode) {
     let mut told = 0_u64;
     for call in 1..30 {
         let setting = Setting {
@@ -210,20 +208,16 @@ fn failing_once(alloc: Global, mode: Mode) -> Result<(), Fail> {
             resizes: call % 2 == 1,
             failing: Some(11 * call),
         };
-        let stalls = run(alloc, setting, call)?;
-        if stalls.stalls != stalls.swap_device || stalls.swap_device > 1 {
-            return Err(Fail::new(format_args!("{mode:?}, call {call}: {stalls:?}")));
-        }
+        let stalls = run(rt, setting, call);
+        let is_one = stalls.stalls == stalls.swap_device && stalls.swap_device <= 1;
+        assert!(rt; is_one, "{mode:?}, call {call}: {stalls:?}");
         told = told.wrapping_add(stalls.swap_device);
     }
-    if told == 0 {
-        return Err(Fail::new(format_args!("{mode:?}: no call of the swap device failed")));
-    }
-    Ok(())
+    assert!(rt; told > 0, "{mode:?}: no call of the swap device failed");
 }
 
 #[test]
-fn a_swap_device_that_fails_once(rt: HostRuntime) -> Result<(), Fail> {
-    failing_once(rt.alloc(), Mode::Sv39)?;
-    failing_once(rt.alloc(), Mode::Sv48)
+fn a_swap_device_that_fails_once(rt: HostRuntime) {
+    failing_once(&rt, Mode::Sv39);
+    failing_once(&rt, Mode::Sv48);
 }

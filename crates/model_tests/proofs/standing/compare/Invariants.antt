@@ -4,4 +4,4 @@ use Rattle.stores.specs.Store.{IsReadyStore}
 use Rattle.model_tests.proofs.standing.compare.Given as goal
 
 abbrev pub invariant-loop-bytes : goal.invariant-loop-bytes
-invariant-loop-bytes l = IsReadyStore ghosts l.store
+invariant-loop-bytes g l = IsReadyStore ghosts l.store
