@@ -84,12 +84,12 @@ impl PageSource for Filled<'_> {
     }
 }
 
-/// A device with a new store of the files.
-pub(crate) fn made(rt: &(impl AllocGlobal + Abort), store: NewStore) -> SimDisk
+/// A device with a new store of the files, and with so many homes more than they need.
+pub(crate) fn made(rt: &(impl AllocGlobal + Abort), store: NewStore, more: u8) -> SimDisk
     requires { IsSizedNew store }
 {
     let mut files = FILES;
-    let sectors = image_bytes(store, &files) / 512;
+    let sectors = image_bytes(store, &files) / 512 + 8 * u64::from(more);
     let mut disk = SimDisk::new(rt.alloc(), sectors).expect(rt, "memory");
     format(&mut disk, store, &mut files).expect(rt, "a store");
     disk
@@ -218,6 +218,17 @@ pub(crate) fn commit(
         Err(BadBatch::BadPages) => panic!(rt; "pages that no commit may take"),
         Ok(()) | Err(BadBatch::ReadOnly) => store.commit(pages, &mut source),
     }
+}
+
+/// A new store whose pages a commit changed: `x` for the locked one, `y` for the last one, and `z` for the first one.
+pub(crate) fn changed(rt: &(impl AllocGlobal + Abort), store: NewStore) -> Store<SimDisk>
+    requires { IsSizedNew store }
+    ensures ready { IsReadyStore ⟦<SimDisk as SectorDisk>⟧ result }
+    ensures synced { (k : ℕ) → ⟦<SimDisk as SectorDisk>⟧.unsynced (disk_of result) k → ⊥ }
+{
+    let mut store = opened(rt, made(rt, store, 0));
+    commit(rt, &mut store, &[LOCKED, LAST, FIRST], b"xyz").expect(rt, "a commit");
+    store
 }
 
 /// The byte of which a page has so many, and zeros behind them.

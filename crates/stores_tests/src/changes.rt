@@ -3,7 +3,7 @@ ghost use Rattle.pool_growth.specs.Settling.{IsReadyOnceSynced};
 ghost use Rattle.pool_store.specs.Store.{IsReadyPool};
 ghost use Rattle.std.specs.Prelude.{◌≡◌, ◌≤◌, IsErrOf, OnOk, vec_capacity};
 
-use crate::bench::{FILES, Filled, LAST, equal, expect, left};
+use crate::bench::{Filled, LAST, equal, expect, left, made};
 use directories::{EXTENTS, Entry, Extent};
 use disk_model::{SectorDisk, SimDisk};
 use growth::Change;
@@ -11,8 +11,9 @@ use pool_growth::{
     ChangeRoom, FileChanges, FileSize, check_changes, check_pages, commit_changes, propose_into,
     settle,
 };
-use pool_store::{PoolStore, format, image_bytes};
+use pool_store::PoolStore;
 use std::process::Abort;
+use stores::NewStore;
 use sync_journal::CommitFault;
 use vm_types::FilePage;
 
@@ -35,15 +36,6 @@ fn entry(length: u64, first: (u32, u32), second: (u32, u32)) -> Option<Entry> {
     })
 }
 
-/// A new store of three files, of 0, 4,097 and 3 bytes, in homes 4 to 6, on a device with so many more.
-fn made(rt: &(impl AllocGlobal + Abort), more: u8) -> SimDisk {
-    let mut files = FILES;
-    let sectors = image_bytes(1, &files) / 512 + 8 * u64::from(more);
-    let mut disk = SimDisk::new(rt.alloc(), sectors).expect(rt, "memory");
-    format(&mut disk, 1, &mut files).expect(rt, "a store");
-    disk
-}
-
 fn opened(rt: &(impl AllocGlobal + Abort), disk: SimDisk) -> PoolStore<SimDisk>
     ensures { IsReadyPool ⟦<SimDisk as SectorDisk>⟧ result }
 {
@@ -53,9 +45,27 @@ fn opened(rt: &(impl AllocGlobal + Abort), disk: SimDisk) -> PoolStore<SimDisk>
     }
 }
 
-/// File 0 gets three pages, file 1 a third one, file 2 goes, and file 3 comes with one.
-fn changes() -> [Change; 4] {
-    [
+/// The new pages of the changes that most tests make.
+const FRESH: [FilePage; 5] = [
+    FilePage { file: 0, page: 0 },
+    FilePage { file: 0, page: 1 },
+    FilePage { file: 0, page: 2 },
+    FilePage { file: 1, page: 2 },
+    FilePage { file: 3, page: 0 },
+];
+
+/// File 0 gets three pages, file 1 a third one, file 2 goes, and file 3 comes with one: with all these new pages and page 1 of file 1, each page of its byte. A page of
+/// `!` makes the source fail.
+fn change(
+    rt: &(impl AllocGlobal + Abort),
+    store: &mut PoolStore<SimDisk>,
+    bytes: &[u8],
+) -> Result<(), CommitFault>
+    requires { IsReadyPool ⟦<SimDisk as SectorDisk>⟧ store.old }
+    ensures done { OnOk result (IsReadyPool ⟦<SimDisk as SectorDisk>⟧ store.new) }
+    ensures told { IsErrOf result CommitFault.Source → IsReadyOnceSynced ⟦<SimDisk as SectorDisk>⟧ store.new }
+{
+    let changes = [
         Change {
             file: 0,
             entry: entry(9000, (8, 2), (12, 1)),
@@ -72,33 +82,32 @@ fn changes() -> [Change; 4] {
             file: 3,
             entry: entry(1, (11, 1), (0, 0)),
         },
-    ]
+    ];
+    let asked = FileChanges {
+        changes: &changes,
+        fresh: &FRESH,
+        pages: &[LAST],
+    };
+    commit(rt, store, asked, bytes)
 }
 
-/// The new pages of these changes.
-const FRESH: [FilePage; 5] = [
-    FilePage { file: 0, page: 0 },
-    FilePage { file: 0, page: 1 },
-    FilePage { file: 0, page: 2 },
-    FilePage { file: 1, page: 2 },
-    FilePage { file: 3, page: 0 },
-];
-
-/// Makes the changes, with all their new pages and page 1 of file 1, each page of its byte. A page of `!` makes the source fail.
-fn change(
+/// File 0 gets another entry, with some of its new pages, each of its byte.
+fn resize(
     rt: &(impl AllocGlobal + Abort),
     store: &mut PoolStore<SimDisk>,
+    entry: Option<Entry>,
+    fresh: &[FilePage],
     bytes: &[u8],
 ) -> Result<(), CommitFault>
     requires { IsReadyPool ⟦<SimDisk as SectorDisk>⟧ store.old }
     ensures done { OnOk result (IsReadyPool ⟦<SimDisk as SectorDisk>⟧ store.new) }
     ensures told { IsErrOf result CommitFault.Source → IsReadyOnceSynced ⟦<SimDisk as SectorDisk>⟧ store.new }
 {
-    let changes = changes();
+    let changes = [Change { file: 0, entry }];
     let asked = FileChanges {
         changes: &changes,
-        fresh: &FRESH,
-        pages: &[LAST],
+        fresh,
+        pages: &[],
     };
     commit(rt, store, asked, bytes)
 }
@@ -114,14 +123,8 @@ fn commit(
     ensures done { OnOk result (IsReadyPool ⟦<SimDisk as SectorDisk>⟧ store.new) }
     ensures told { IsErrOf result CommitFault.Source → IsReadyOnceSynced ⟦<SimDisk as SectorDisk>⟧ store.new }
 {
-    match check_changes(store, asked.changes) {
-        Ok(()) => {}
-        Err(fault) => panic!(rt; "{fault:?}"),
-    }
-    match check_pages(store, asked) {
-        Ok(()) => {}
-        Err(fault) => panic!(rt; "{fault:?}"),
-    }
+    check_changes(store, asked.changes).expect(rt, "changes");
+    check_pages(store, asked).expect(rt, "their pages");
     expect(
         rt,
         bytes.len() >= asked.fresh.len() && bytes.len() - asked.fresh.len() == asked.pages.len(),
@@ -215,7 +218,7 @@ fn fails(rt: &(impl AllocGlobal + Abort), disk: &SimDisk, call: u64) {
 
 #[test]
 fn files_change_with_their_pages_all_at_once(rt: HostRuntime) {
-    let disk = left(&rt, &made(&rt, 16), None);
+    let disk = left(&rt, &made(&rt, NewStore::Pool(1), 16), None);
     equal(&rt, found(&rt, &disk, None), BEFORE);
     let mut store = opened(&rt, left(&rt, &disk, None));
     let first = store.disk.calls();
@@ -231,7 +234,7 @@ fn files_change_with_their_pages_all_at_once(rt: HostRuntime) {
 // It fails while pages go into slots: the store is synced then all the same, and the same changes come with the next commit.
 #[test]
 fn a_source_that_fails_leaves_the_files_before(rt: HostRuntime) {
-    let mut store = opened(&rt, made(&rt, 16));
+    let mut store = opened(&rt, made(&rt, NewStore::Pool(1), 16));
     let done = change(&rt, &mut store, b"ab!def");
     let is_told = matches!(done, Err(CommitFault::Source));
     expect(&rt, is_told, "a source that fails");
@@ -242,87 +245,40 @@ fn a_source_that_fails_leaves_the_files_before(rt: HostRuntime) {
     equal(&rt, found(&rt, &store.disk, None), AFTER);
 }
 
-/// File 0 gets 130 pages, which are given: too many for slots.
-fn grow(
-    rt: &(impl AllocGlobal + Abort),
-    store: &mut PoolStore<SimDisk>,
-    bytes: &[u8; 130],
-) -> Result<(), CommitFault>
-    requires { IsReadyPool ⟦<SimDisk as SectorDisk>⟧ store.old }
-    ensures done { OnOk result (IsReadyPool ⟦<SimDisk as SectorDisk>⟧ store.new) }
-    ensures told { IsErrOf result CommitFault.Source → IsReadyOnceSynced ⟦<SimDisk as SectorDisk>⟧ store.new }
-{
+// File 0 gets 130 pages, too many for slots. It fails while they are put where they are to stand: those that are there are synced, and no file has them.
+#[test]
+fn a_source_that_fails_among_many_new_pages_leaves_a_store_that_goes_on(rt: HostRuntime) {
+    let mut store = opened(&rt, made(&rt, NewStore::Pool(1), 150));
     let mut fresh = [FilePage { file: 0, page: 0 }; 130];
     for i in 0..130 {
         fresh[i].page = i as u32;
     }
-    let asked = FileChanges {
-        changes: &[Change {
-            file: 0,
-            entry: entry(130 * 4096, (8, 100), (110, 30)),
-        }],
-        fresh: &fresh,
-        pages: &[],
-    };
-    commit(rt, store, asked, bytes)
-}
-
-// It fails while they are put where they are to stand: those that are there are synced, and no file has them.
-#[test]
-fn a_source_that_fails_among_many_new_pages_leaves_a_store_that_goes_on(rt: HostRuntime) {
-    let mut store = opened(&rt, made(&rt, 150));
+    let grown = entry(130 * 4096, (8, 100), (110, 30));
     let mut given = [b'x'; 130];
     given[100] = b'!';
-    let done = grow(&rt, &mut store, &given);
+    let done = resize(&rt, &mut store, grown, &fresh, &given);
     let is_told = matches!(done, Err(CommitFault::Source));
     expect(&rt, is_told, "a source that fails");
     equal(&rt, found(&rt, &store.disk, Some([255; 512])), BEFORE);
     settle(&mut store).expect(&rt, "a sync");
     equal(&rt, bytes(&rt, &mut store), BEFORE);
     given[100] = b'y';
-    grow(&rt, &mut store, &given).expect(&rt, "a commit");
+    resize(&rt, &mut store, grown, &fresh, &given).expect(&rt, "a commit");
     let last = byte(&rt, &mut store, FilePage { file: 0, page: 100 });
     equal(&rt, last, b'y');
     let after = [*b"xxx", *b"aa-", *b"b--", *b"---"];
     equal(&rt, found(&rt, &store.disk, None), after);
 }
 
-/// File 0 with so many bytes, in the homes that the changes give it.
-fn first_file(length: u64) -> [Change; 1] {
-    [Change {
-        file: 0,
-        entry: entry(length, (8, 2), (12, 1)),
-    }]
-}
-
-/// Gives file 0 so many bytes, with some of its new pages.
-fn resize(
-    rt: &(impl AllocGlobal + Abort),
-    store: &mut PoolStore<SimDisk>,
-    length: u64,
-    fresh: &[FilePage],
-    bytes: &[u8],
-) -> Result<(), CommitFault>
-    requires { IsReadyPool ⟦<SimDisk as SectorDisk>⟧ store.old }
-    ensures done { OnOk result (IsReadyPool ⟦<SimDisk as SectorDisk>⟧ store.new) }
-    ensures told { IsErrOf result CommitFault.Source → IsReadyOnceSynced ⟦<SimDisk as SectorDisk>⟧ store.new }
-{
-    let asked = FileChanges {
-        changes: &first_file(length),
-        fresh,
-        pages: &[],
-    };
-    commit(rt, store, asked, bytes)
-}
-
 /// File 0 is cut, and gets its pages again, of which page 1 alone is given: the homes of the others have their old bytes.
 #[test]
 fn new_pages_that_nobody_gives_are_zeros(rt: HostRuntime) {
-    let mut store = opened(&rt, made(&rt, 16));
+    let mut store = opened(&rt, made(&rt, NewStore::Pool(1), 16));
     change(&rt, &mut store, b"abcdef").expect(&rt, "a commit");
     store.tidy().expect(&rt, "pages at home");
-    resize(&rt, &mut store, 0, &[], b"").expect(&rt, "a cut");
-    resize(&rt, &mut store, 9000, &FRESH[1..2], b"x").expect(&rt, "new pages");
+    let (cut, whole) = (entry(0, (8, 2), (12, 1)), entry(9000, (8, 2), (12, 1)));
+    resize(&rt, &mut store, cut, &[], b"").expect(&rt, "a cut");
+    resize(&rt, &mut store, whole, &FRESH[1..2], b"x").expect(&rt, "new pages");
     let after = [*b"\0x\0", *b"afd", *b"---", *b"e--"];
     equal(&rt, found(&rt, &store.disk, None), after);
 }
@@ -351,10 +307,7 @@ fn propose_and_commit(
             length: 0,
         },
     ];
-    match propose_into(store, &sizes, changes) {
-        Ok(()) => {}
-        Err(fault) => panic!(rt; "{fault:?}"),
-    }
+    propose_into(store, &sizes, changes).expect(rt, "changes");
     let asked = FileChanges {
         changes: changes.as_slice(),
         fresh: &[],
@@ -365,7 +318,7 @@ fn propose_and_commit(
 
 #[test]
 fn changes_are_listed_in_the_same_place_again(rt: HostRuntime) {
-    let mut store = opened(&rt, made(&rt, 16));
+    let mut store = opened(&rt, made(&rt, NewStore::Pool(1), 16));
     let mut changes = Vec::with_capacity(rt.alloc(), 2).expect(&rt, "memory");
     propose_and_commit(&rt, &mut store, 8192, &mut changes);
     let after = [*b"\0\0-", *b"aa-", *b"---", *b"---"];

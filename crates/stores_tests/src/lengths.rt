@@ -4,22 +4,12 @@ ghost use Rattle.file_store.specs.Standing.{IsPageOf};
 ghost use Rattle.sized_stores.specs.Store.{files_of, IsReadySized};
 ghost use Rattle.std.specs.Prelude.{◌∷◌, [], IsErrOf, IsTrue, OnOk};
 
-use crate::bench::{FILES, Filled, equal, expect, left, opened};
+use crate::bench::{Filled, equal, expect, left, made, opened};
 use disk_model::{SectorDisk, SimDisk};
 use sized_stores::{SizeFault, SizedStore};
 use std::process::Abort;
-use stores::{NewStore, format, image_bytes};
+use stores::NewStore;
 use vm_types::{FilePage, LONGEST_FILE, PAGE_BYTES};
-
-/// A new store of three files, of 0, 4,097 and 3 bytes, on a device with so many more homes.
-fn made(rt: &(impl AllocGlobal + Abort), more: u8) -> SimDisk {
-    let mut files = FILES;
-    let store = NewStore::Pool(1);
-    let sectors = image_bytes(store, &files) / 512 + 8 * u64::from(more);
-    let mut disk = SimDisk::new(rt.alloc(), sectors).expect(rt, "memory");
-    format(&mut disk, store, &mut files).expect(rt, "a store");
-    disk
-}
 
 /// Opens the store on a device, with the lengths that its files have durably.
 fn sized(rt: &(impl AllocGlobal + Abort), disk: SimDisk) -> SizedStore<SimDisk>
@@ -130,7 +120,10 @@ fn found(rt: &impl Abort, store: &mut SizedStore<SimDisk>) -> (Option<u64>, [(u8
     requires { IsReadySized ⟦<SimDisk as SectorDisk>⟧ store.old }
     ensures { IsReadySized ⟦<SimDisk as SectorDisk>⟧ store.new }
 {
-    let length = store.file(1).map(|info| info.length);
+    let length = match store.file(1) {
+        Some(info) => Some(info.length),
+        None => None,
+    };
     (
         length,
         [byte(rt, store, 0), byte(rt, store, 1), byte(rt, store, 2)],
@@ -156,7 +149,7 @@ const BEFORE: (Option<u64>, [(u8, usize); 3]) = (Some(4097), [(b'a', 4096), (b'a
 // What was cut off is not seen again, before the commit and after it.
 #[test]
 fn a_file_that_is_cut_and_grows_again_has_zeros(rt: HostRuntime) {
-    let mut store = sized(&rt, made(&rt, 8));
+    let mut store = sized(&rt, made(&rt, NewStore::Pool(1), 8));
     equal(&rt, found(&rt, &mut store), BEFORE);
     resize(&rt, &mut store, 5);
     resize(&rt, &mut store, 9000);
@@ -173,7 +166,7 @@ fn a_file_that_is_cut_and_grows_again_has_zeros(rt: HostRuntime) {
 // The device has no home for a third page of file 1. Its store goes on.
 #[test]
 fn a_file_does_not_grow_where_homes_are_wanting(rt: HostRuntime) {
-    let mut store = sized(&rt, made(&rt, 0));
+    let mut store = sized(&rt, made(&rt, NewStore::Pool(1), 0));
     resize(&rt, &mut store, 4096);
     resize(&rt, &mut store, 8193);
     let refused = commit(&rt, &mut store, b'x');
@@ -191,7 +184,7 @@ fn a_file_does_not_grow_where_homes_are_wanting(rt: HostRuntime) {
 // The same commit may be made again at once.
 #[test]
 fn a_source_that_fails_leaves_the_lengths_before(rt: HostRuntime) {
-    let mut store = sized(&rt, made(&rt, 8));
+    let mut store = sized(&rt, made(&rt, NewStore::Pool(1), 8));
     resize(&rt, &mut store, 9000);
     resize(&rt, &mut store, 3);
     let failed = commit(&rt, &mut store, b'!');
@@ -207,6 +200,6 @@ fn a_source_that_fails_leaves_the_lengths_before(rt: HostRuntime) {
 
 #[test]
 fn files_of_layout_2_keep_their_lengths(rt: HostRuntime) {
-    let store = sized(&rt, crate::bench::made(&rt, NewStore::Journal));
+    let store = sized(&rt, made(&rt, NewStore::Journal, 0));
     equal(&rt, store.can_resize(), false);
 }

@@ -11,12 +11,6 @@ mod commits;
 #[cfg(test)]
 mod lengths;
 #[cfg(test)]
-mod old_stores;
-#[cfg(test)]
 mod openings;
-#[cfg(test)]
-mod pools;
-#[cfg(test)]
-mod tidying;
 #[cfg(test)]
 mod upgrading;

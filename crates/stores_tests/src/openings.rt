@@ -1,22 +1,41 @@
 //! Stores of each layout that are opened, and what is no store.
 use crate::bench::{
-    FILES, FIRST, LAST, LOCKED, bytes, commit, equal, expect, left, made, opened, refusal, resumed,
+    FILES, LAST, bytes, changed, commit, equal, left, made, opened, refusal, resumed,
 };
 use disk_model::{SectorDisk, SimDisk};
 use std::process::Abort;
 use stores::{NewStore, OpenFault, image_bytes};
 use vm_types::FileInfo;
 
+/// What a store tells of files by their numbers.
+const INFOS: [(u16, Option<FileInfo>); 5] = [
+    (
+        0,
+        Some(FileInfo {
+            length: 0,
+            read_only: false,
+        }),
+    ),
+    (
+        1,
+        Some(FileInfo {
+            length: 4097,
+            read_only: false,
+        }),
+    ),
+    (
+        2,
+        Some(FileInfo {
+            length: 3,
+            read_only: true,
+        }),
+    ),
+    (3, None),
+    (255, None),
+];
+
 #[test]
 fn a_store_has_the_files_that_it_is_made_of(rt: HostRuntime) {
-    let facts = |length, read_only| Some(FileInfo { length, read_only });
-    let infos = [
-        (0, facts(0, false)),
-        (1, facts(4097, false)),
-        (2, facts(3, true)),
-        (3, None),
-        (255, None),
-    ];
     // Of layout 4 a directory of 4 home pages is before those of the files, behind maps of one block; pool and homes, the kind and the mark are each
     // synced for themselves.
     let rows = [
@@ -32,11 +51,11 @@ fn a_store_has_the_files_that_it_is_made_of(rt: HostRuntime) {
         ),
     ];
     for (layout, sizes, most) in rows {
-        let disk = made(&rt, layout);
+        let disk = made(&rt, layout, 0);
         let size = image_bytes(layout, &FILES);
         equal(&rt, (size, disk.sectors(), disk.syncs()), sizes);
         let mut store = opened(&rt, left(&rt, &disk, None));
-        for (n, info) in infos {
+        for (n, info) in INFOS {
             equal(&rt, store.file(n), info);
             equal(&rt, store.info(u64::from(n)), info);
         }
@@ -61,18 +80,14 @@ fn a_store_is_taken_up_as_it_stands(rt: HostRuntime) {
         (NewStore::Journal, 1023, 3 * 8 + 1),
         (NewStore::Pool(1), 1008 - 3, 0),
     ] {
-        let mut store = opened(&rt, made(&rt, layout));
-        let done = commit(&rt, &mut store, &[LOCKED, LAST, FIRST], b"xyz");
-        expect(&rt, done.is_ok(), "a commit");
-        let disk = store.into_disk();
+        let disk = changed(&rt, layout).into_disk();
         let writes = disk.writes();
         let mut store = resumed(&rt, disk);
         equal(&rt, bytes(&rt, &mut store), *b"zyx");
         equal(&rt, store.free_pages(), free);
         let more = store.disk().writes().checked_sub(writes);
         equal(&rt, more, Some(written));
-        let done = commit(&rt, &mut store, &[LAST], b"w");
-        expect(&rt, done.is_ok(), "the next commit");
+        commit(&rt, &mut store, &[LAST], b"w").expect(&rt, "the next commit");
         equal(&rt, bytes(&rt, &mut store), *b"zwx");
     }
 }
@@ -84,7 +99,7 @@ fn a_device_without_a_whole_mark_is_no_store(rt: HostRuntime) {
         equal(&rt, refusal(&rt, disk), (Some(OpenFault::BadLayout), 0));
     }
     for layout in [NewStore::Journal, NewStore::Pool(1)] {
-        let mut disk = made(&rt, layout);
+        let mut disk = made(&rt, layout, 0);
         if disk.sectors() > 0 {
             let mut torn = *disk.sector(0);
             torn[511] = 0;
@@ -98,7 +113,7 @@ fn a_device_without_a_whole_mark_is_no_store(rt: HostRuntime) {
         );
     }
     // A mark of layout 4 on a store of layout 2, whose sector 1 is no kind of a pool.
-    let mut disk = made(&rt, NewStore::Journal);
+    let mut disk = made(&rt, NewStore::Journal, 0);
     if disk.sectors() > 0 {
         let pool_mark = file_store::pool_mark();
         disk.write(0, pool_mark).expect(&rt, "a write");
@@ -114,7 +129,7 @@ fn a_device_without_a_whole_mark_is_no_store(rt: HostRuntime) {
 #[test]
 fn a_device_that_fails_is_told(rt: HostRuntime) {
     for layout in [NewStore::Journal, NewStore::Pool(1)] {
-        let store = opened(&rt, left(&rt, &made(&rt, layout), None));
+        let store = opened(&rt, left(&rt, &made(&rt, layout, 0), None));
         // The calls of an opening are those that a device has had as it is opened.
         for call in [1, store.disk().calls()] {
             let mut disk = left(&rt, store.disk(), None);
