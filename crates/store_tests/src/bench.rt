@@ -1,23 +1,17 @@
 //! What the tests share: images of stores, whose bytes are worked out by hand, and what a stop leaves of a new one.
-ghost use Rattle.std.specs.Prelude.{◌≡◌, IfOk};
+ghost use Rattle.std.specs.Prelude.{◌≡◌};
 ghost use Rattle.stores.specs.Store.{IsReadyStore};
 
 use batches::check_page;
 use disk_model::{SectorDisk, SimDisk};
-use std::alloc::Global;
 use std::fmt::Debug;
 use std::process::Abort;
-use std::test::Fail;
 use stores::{OpenFault, Store};
 use vm_types::FilePage;
 
-/// Fails where something does not hold.
-pub(crate) fn expect(holds: bool, otherwise: &str) -> Result<(), Fail> {
-    if holds {
-        Ok(())
-    } else {
-        Err(Fail::new(format_args!("{otherwise}")))
-    }
+/// Ends the test where something does not hold.
+pub(crate) fn expect(rt: &impl Abort, holds: bool, otherwise: &str) {
+    assert!(rt; holds, "{otherwise}");
 }
 
 /// Ends the test where the value isn't the one that is wanted. A test that said `assert_eq!` itself would be proved to end well at each place.
@@ -25,18 +19,12 @@ pub(crate) fn equal<T: PartialEq + Debug + Drop>(rt: &impl Abort, got: T, want: 
     assert_eq!(rt; got, want);
 }
 
-/// A sector of one word, 64 times.
-pub(crate) fn repeated(word: &[u8; 8]) -> [u8; 512] {
+/// A sector of one word, 64 times, but for these bytes at these places.
+pub(crate) fn sector(word: &[u8; 8], bytes: &[(usize, u8)]) -> [u8; 512] {
     let mut sector = [0; 512];
     for i in 0..512 {
         sector[i] = word[i % 8];
     }
-    sector
-}
-
-/// A sector that holds these bytes at these places, and is zero elsewhere.
-pub(crate) fn sector_with(bytes: &[(usize, u8)]) -> [u8; 512] {
-    let mut sector = [0; 512];
     for (at, byte) in bytes {
         if *at < 512 {
             sector[*at] = *byte;
@@ -45,20 +33,29 @@ pub(crate) fn sector_with(bytes: &[(usize, u8)]) -> [u8; 512] {
     sector
 }
 
+/// The device after a stop, with these bytes in its unsynced sectors, or where there are none with what was synced.
+pub(crate) fn left(
+    rt: &(impl AllocGlobal + Abort),
+    disk: &SimDisk,
+    chosen: &[(u64, [u8; 512])],
+) -> SimDisk {
+    disk.left(rt.alloc(), chosen).expect(rt, "memory")
+}
+
 /// A device of so many sectors of zeros but for those of these that it has, as a stop leaves it.
 pub(crate) fn image(
-    alloc: Global,
+    rt: &(impl AllocGlobal + Abort),
     sectors: u64,
     changes: &[(u64, [u8; 512])],
-) -> Result<SimDisk, Fail> {
-    let mut disk = SimDisk::new(alloc, sectors)?;
+) -> SimDisk {
+    let mut disk = SimDisk::new(rt.alloc(), sectors).expect(rt, "memory");
     for (n, bytes) in changes {
         if *n < disk.sectors() {
-            disk.write(*n, bytes)?;
+            disk.write(*n, bytes).expect(rt, "a write");
         }
     }
-    disk.sync()?;
-    Ok(disk.left(alloc, &[])?)
+    disk.sync().expect(rt, "a sync");
+    left(rt, &disk, &[])
 }
 
 /// Whether the sectors of a device hold these bytes.
@@ -71,12 +68,24 @@ pub(crate) fn holds(disk: &SimDisk, wanted: &[(u64, [u8; 512])]) -> bool {
     true
 }
 
-pub(crate) fn opened(alloc: Global, disk: SimDisk) -> Result<Store<SimDisk>, OpenFault>
-    ensures { IfOk result (λ store. IsReadyStore ⟦<SimDisk as SectorDisk>⟧ store) }
+/// Sees how many writes and syncs a device was asked for, and that its sectors hold these bytes.
+pub(crate) fn check_device(
+    rt: &impl Abort,
+    disk: &SimDisk,
+    counts: (u64, u64),
+    wanted: &[(u64, [u8; 512])],
+) {
+    equal(rt, (disk.writes(), disk.syncs()), counts);
+    expect(rt, holds(disk, wanted), "a sector holds other bytes");
+}
+
+/// Opens the store on a device.
+pub(crate) fn opened(rt: &(impl AllocGlobal + Abort), disk: SimDisk) -> Store<SimDisk>
+    ensures { IsReadyStore ⟦<SimDisk as SectorDisk>⟧ result }
 {
-    match Store::open(alloc, disk) {
-        Ok(store) => Ok(store),
-        Err((fault, _)) => Err(fault),
+    match Store::open(rt.alloc(), disk) {
+        Ok(store) => store,
+        Err((fault, _)) => panic!(rt; "{fault}"),
     }
 }
 
@@ -105,31 +114,27 @@ fn are_same(one: &SimDisk, other: &SimDisk) -> bool {
 
 /// The device after a stop, with these bytes in each unsynced sector, or where there are none with what was synced: heads, the
 /// front of the journal, and the homes.
-pub(crate) fn left(
-    alloc: Global,
-    disk: &SimDisk,
-    fill: Option<[u8; 512]>,
-) -> Result<SimDisk, Fail> {
-    let mut chosen = Vec::new(alloc);
+fn filled(rt: &(impl AllocGlobal + Abort), disk: &SimDisk, fill: Option<[u8; 512]>) -> SimDisk {
+    let mut chosen = Vec::new(rt.alloc());
     if let Some(bytes) = fill {
         for n in 0..disk.sectors() {
             if n < 40 || 8195 <= n {
-                chosen.push((n, bytes))?;
+                chosen.push((n, bytes)).expect(rt, "memory");
             }
         }
     }
-    Ok(disk.left(alloc, chosen.as_slice())?)
+    left(rt, disk, chosen.as_slice())
 }
 
 /// Sees that what a stop leaves of a new store has no mark or is the whole store, whatever the unsynced sectors then hold: their
 /// old bytes, zeros, ones, half of the mark, all of it or the mark of a pool. It has the mark where all of the mark's own write reached the device.
 pub(crate) fn check_left(
-    alloc: Global,
+    rt: &(impl AllocGlobal + Abort),
     stopped: &SimDisk,
     at_mark: bool,
     whole: &SimDisk,
-) -> Result<(), Fail> {
-    let mark = repeated(b"FAMSYNC2");
+) {
+    let mark = sector(b"FAMSYNC2", &[]);
     let mut half = mark;
     half[256..].fill(0);
     for fill in [
@@ -138,25 +143,20 @@ pub(crate) fn check_left(
         Some([0xff; 512]),
         Some(half),
         Some(mark),
-        Some(repeated(b"FAMSYNC4")),
+        Some(sector(b"FAMSYNC4", &[])),
     ] {
-        let image = left(alloc, stopped, fill)?;
+        let image = filled(rt, stopped, fill);
         let marked = holds(&image, &[(0, mark)]);
-        expect(
-            marked == (at_mark && fill == Some(mark)),
-            "a mark that was not written",
-        )?;
-        expect(
-            !marked || are_same(&image, whole),
-            "a mark without the whole store",
-        )?;
-        let fault = opened(alloc, image).err();
+        let is_written = at_mark && fill == Some(mark);
+        expect(rt, marked == is_written, "a mark that was not written");
+        let is_whole = !marked || are_same(&image, whole);
+        expect(rt, is_whole, "a mark without the whole store");
         let wanted = if marked {
             None
         } else {
             Some(OpenFault::BadLayout)
         };
-        expect(fault == wanted, "a store opens where it has the mark")?;
+        let fault = Store::open(rt.alloc(), image).err().map(|(fault, _)| fault);
+        equal(rt, fault, wanted);
     }
-    Ok(())
 }

@@ -1,12 +1,12 @@
 //! Stores on a device in memory.
-ghost use Rattle.std.specs.Prelude.{OnOk, replicate, if◌then◌else◌};
+ghost use Rattle.std.specs.Prelude.{replicate, if◌then◌else◌};
 ghost use Rattle.stores.specs.Store.{IsReadyStore};
 
-use crate::bench::{equal, expect, first_byte, holds, image, opened, repeated, sector_with};
+use crate::bench::{check_device, equal, expect, first_byte, holds, image, left, opened, sector};
 use batches::check_pages;
 use disk_model::{SectorDisk, SimDisk};
 use file_store::{FileStore, OpenFault, stops_in_a_row};
-use std::test::Fail;
+use std::process::Abort;
 use stores::Store;
 use sync_journal::{CommitFault, PageSource, SourceFault};
 use vm_types::{FileInfo, FilePage};
@@ -49,106 +49,84 @@ impl PageSource for Filled {
 
 /// Commits these pages: whether it succeeds, or the source fails.
 fn commits(
+    rt: &impl Abort,
     store: &mut Store<SimDisk>,
     pages: &[FilePage],
     source: &mut Filled,
-) -> Result<bool, Fail>
+) -> bool
     requires { IsReadyStore ⟦<SimDisk as SectorDisk>⟧ store.old }
-    ensures { OnOk result (IsReadyStore ⟦<SimDisk as SectorDisk>⟧ store.new) }
+    ensures { IsReadyStore ⟦<SimDisk as SectorDisk>⟧ store.new }
 {
     if let Err(fault) = check_pages(store, store.free_pages(), pages) {
-        return Err(Fail::new(format_args!("the pages: {fault}")));
+        panic!(rt; "the pages: {fault}");
     }
     match store.commit(pages, source) {
-        Ok(()) => Ok(true),
-        Err(CommitFault::Source) => Ok(false),
-        Err(CommitFault::Device) => Err(Fail::new("the device failed")),
+        Ok(()) => true,
+        Err(CommitFault::Source) => false,
+        Err(CommitFault::Device) => panic!(rt; "the device failed"),
     }
 }
 
 #[test]
-fn commits_up_to_the_end(rt: HostRuntime) -> Result<(), Fail> {
+fn commits_up_to_the_end(rt: HostRuntime) {
     let page = FilePage { file: 0, page: 1 };
     let mut source = Filled { fails: false };
-    let sectors = [(0, repeated(b"FAMSYNC2")), (1, sector_with(&TWO_FILES))];
-    let mut store = opened(rt.alloc(), image(rt.alloc(), 8219, &sectors)?)?;
-    expect(
-        commits(&mut store, &[page], &mut source)?,
-        "the first commit",
-    )?;
+    let sectors = [
+        (0, sector(b"FAMSYNC2", &[])),
+        (1, sector(&[0; 8], &TWO_FILES)),
+    ];
+    let mut store = opened(&rt, image(&rt, 8219, &sectors));
+    let is_done = commits(&rt, &mut store, &[page], &mut source);
+    expect(&rt, is_done, "the first commit");
     equal(&rt, first_byte(&mut store, page), Some(1));
-    // Opening syncs once, and a first commit twice.
-    equal(
-        &rt,
-        (store.disk().writes(), store.disk().syncs()),
-        (17, 1 + 2),
-    );
     // The file ends 904 bytes into this page, which stands in the journal's body.
     let mut last = [0; 512];
     last[..392].fill(1);
-    let wanted = [(11, [1; 512]), (12, last), (13, [0; 512]), (8203, [0; 512])];
-    expect(holds(store.disk(), &wanted), "the page in the body")?;
+    let body = [(11, [1; 512]), (12, last), (13, [0; 512]), (8203, [0; 512])];
+    // Opening syncs once, and a first commit twice.
+    check_device(&rt, store.disk(), (17, 1 + 2), &body);
     // The next commit writes it home first.
-    expect(
-        commits(&mut store, &[page], &mut source)?,
-        "the second commit",
-    )?;
-    equal(
-        &rt,
-        (store.disk().writes(), store.disk().syncs()),
-        (43, 1 + 6),
-    );
-    let wanted = [
+    let is_done = commits(&rt, &mut store, &[page], &mut source);
+    expect(&rt, is_done, "the second commit");
+    let home = [
         (8202, [0; 512]),
         (8203, [1; 512]),
         (8204, last),
         (8210, [0; 512]),
     ];
-    expect(holds(store.disk(), &wanted), "the page in its home")
+    check_device(&rt, store.disk(), (43, 1 + 6), &home);
 }
 
 #[test]
-fn commits_after_a_source_fault(rt: HostRuntime) -> Result<(), Fail> {
+fn commits_after_a_source_fault(rt: HostRuntime) {
     let pages = [FilePage { file: 0, page: 1 }, FilePage { file: 0, page: 0 }];
     let mut source = Filled { fails: true };
-    let sectors = [(0, repeated(b"FAMSYNC2")), (1, sector_with(&TWO_FILES))];
-    let mut store = opened(rt.alloc(), image(rt.alloc(), 8219, &sectors)?)?;
-    expect(
-        !commits(&mut store, &pages, &mut source)?,
-        "the source's fault",
-    )?;
-    expect(
-        commits(&mut store, &pages, &mut source)?,
-        "the commit after it",
-    )?;
-    // Eight writes for the page before the fault. The first page is cut where its file ends.
-    equal(
-        &rt,
-        (store.disk().writes(), store.disk().syncs()),
-        (8 + 25, 1 + 2),
-    );
-    let wanted = [
-        (2, repeated(b"GATEOPEN")),
-        (3, sector_with(&[(0, 2), (4, 1)])),
+    let sectors = [
+        (0, sector(b"FAMSYNC2", &[])),
+        (1, sector(&[0; 8], &TWO_FILES)),
+    ];
+    let mut store = opened(&rt, image(&rt, 8219, &sectors));
+    let is_done = commits(&rt, &mut store, &pages, &mut source);
+    expect(&rt, !is_done, "the source's fault");
+    let is_done = commits(&rt, &mut store, &pages, &mut source);
+    expect(&rt, is_done, "the commit after it");
+    // The first page is cut where its file ends.
+    let body = [
+        (2, sector(b"GATEOPEN", &[])),
+        (3, sector(&[0; 8], &[(0, 2), (4, 1)])),
         (11, [1; 512]),
         (13, [0; 512]),
         (19, [1; 512]),
         (21, [1; 512]),
         (8195, [0; 512]),
     ];
-    expect(holds(store.disk(), &wanted), "the pages in the body")?;
+    // Eight writes for the page before the fault.
+    check_device(&rt, store.disk(), (8 + 25, 1 + 2), &body);
     // A fault of the source in the next one comes when these pages are home, and no journal is live then.
     source.fails = true;
-    expect(
-        !commits(&mut store, &pages, &mut source)?,
-        "the source's second fault",
-    )?;
-    equal(
-        &rt,
-        (store.disk().writes(), store.disk().syncs()),
-        (33 + 17 + 8, 1 + 4),
-    );
-    let wanted = [
+    let is_done = commits(&rt, &mut store, &pages, &mut source);
+    expect(&rt, !is_done, "the source's second fault");
+    let homes = [
         (2, [0; 512]),
         (8195, [1; 512]),
         (8197, [1; 512]),
@@ -156,150 +134,136 @@ fn commits_after_a_source_fault(rt: HostRuntime) -> Result<(), Fail> {
         (8205, [0; 512]),
         (8211, [0; 512]),
     ];
-    expect(holds(store.disk(), &wanted), "the pages in their homes")
+    check_device(&rt, store.disk(), (33 + 17 + 8, 1 + 4), &homes);
 }
 
-#[test]
-fn opens_and_reads(rt: HostRuntime) -> Result<(), Fail> {
-    // Home 2 stands in the body; home 1 is not synced yet.
+/// A device of two files where home 2 stands in the body, and home 1 is not synced yet.
+fn unsynced(rt: &(impl AllocGlobal + Abort)) -> SimDisk {
     let page = [0x5a; 512];
-    let mut disk = image(
-        rt.alloc(),
-        8219,
-        &[
-            (0, repeated(b"FAMSYNC2")),
-            (1, sector_with(&TWO_FILES)),
-            (2, repeated(b"GATEOPEN")),
-            (3, sector_with(&[(0, 1), (4, 2)])),
-            (11, page),
-            (12, page),
-            (13, page),
-            (14, page),
-            (15, page),
-            (16, page),
-            (17, page),
-            (18, page),
-        ],
-    )?;
-    if disk.sectors() > 8203 {
-        disk.write(8203, &[0x61; 512])?;
-    }
-    let mut store = opened(rt.alloc(), disk)?;
-    let facts = |length, read_only| Some(FileInfo { length, read_only });
-    let infos = [
-        (0, facts(5000, false)),
-        (1, facts(1, true)),
-        (2, None),
-        (u16::MAX, None),
+    let sectors = [
+        (0, sector(b"FAMSYNC2", &[])),
+        (1, sector(&[0; 8], &TWO_FILES)),
+        (2, sector(b"GATEOPEN", &[])),
+        (3, sector(&[0; 8], &[(0, 1), (4, 2)])),
+        (11, page),
+        (12, page),
+        (13, page),
+        (14, page),
+        (15, page),
+        (16, page),
+        (17, page),
+        (18, page),
     ];
-    for (n, info) in infos {
+    let mut disk = image(rt, 8219, &sectors);
+    if disk.sectors() > 8203 {
+        disk.write(8203, &[0x61; 512]).expect(rt, "a write");
+    }
+    disk
+}
+
+/// Files, and what is known of them.
+const INFOS: [(u16, Option<FileInfo>); 4] = [
+    (
+        0,
+        Some(FileInfo {
+            length: 5000,
+            read_only: false,
+        }),
+    ),
+    (
+        1,
+        Some(FileInfo {
+            length: 1,
+            read_only: true,
+        }),
+    ),
+    (2, None),
+    (u16::MAX, None),
+];
+
+#[test]
+fn opens_and_reads(rt: HostRuntime) {
+    let mut store = opened(&rt, unsynced(&rt));
+    for (n, info) in INFOS {
         equal(&rt, store.file(n), info);
         equal(&rt, store.info(u64::from(n)), info);
     }
     equal(&rt, store.info(65), None);
-    equal(
-        &rt,
-        first_byte(&mut store, FilePage { file: 0, page: 0 }),
-        Some(0),
-    );
-    equal(
-        &rt,
-        first_byte(&mut store, FilePage { file: 0, page: 1 }),
-        Some(0x61),
-    );
-    equal(
-        &rt,
-        first_byte(&mut store, FilePage { file: 1, page: 0 }),
-        Some(0x5a),
-    );
+    let first = first_byte(&mut store, FilePage { file: 0, page: 0 });
+    equal(&rt, first, Some(0));
+    let late = first_byte(&mut store, FilePage { file: 0, page: 1 });
+    equal(&rt, late, Some(0x61));
+    let in_body = first_byte(&mut store, FilePage { file: 1, page: 0 });
+    equal(&rt, in_body, Some(0x5a));
     stops_in_a_row(store.disk());
     sync_journal::stops_in_a_row(store.disk());
     // One sync at first, one of the home and one of the gate: all of it is there after a stop.
     let disk = store.into_disk();
     equal(&rt, (disk.writes(), disk.syncs()), (1 + 9, 3));
-    let wanted = [
+    let homes = [
         (2, [0; 512]),
         (8203, [0x61; 512]),
-        (8211, page),
-        (8218, page),
+        (8211, [0x5a; 512]),
+        (8218, [0x5a; 512]),
     ];
-    expect(holds(&disk.left(rt.alloc(), &[])?, &wanted), "the homes")
+    expect(&rt, holds(&left(&rt, &disk, &[]), &homes), "the homes");
 }
 
-// How a store of these sectors 0 to 3 and a page of `5a` in the body opens, and how many sectors are then written.
-#[test]
-fn refuses_layouts_and_journals(rt: HostRuntime) -> Result<(), Fail> {
-    let none = [0; 512];
-    let mark = repeated(b"FAMSYNC2");
-    let gate = repeated(b"GATEOPEN");
-    let (mut torn, mut closed) = (mark, gate);
-    torn[511] = 0;
-    closed[100] = 0;
-    let (old, other) = (repeated(b"FAMSYNC1"), repeated(b"FAMSYNC3"));
-    let file = sector_with(&[(3, 0x80), (5, 0x10)]);
-    let many = sector_with(&[(1, 4)]);
-    let layout = Some(OpenFault::BadLayout);
-    let journal = Some(OpenFault::BadJournal);
-    let rows = [
-        (8195, [mark, none, none, none], (None, 0)),
-        (8194, [mark, none, none, none], (layout, 0)),
-        (8195, [torn, none, none, none], (layout, 0)),
-        (8203, [old, file, gate, many], (layout, 0)),
-        (8203, [other, file, gate, many], (layout, 0)),
-        // An entry of no file, a file of one byte in home 1 of 1, and two of none and of one byte in home 0.
-        (
-            8195,
-            [mark, sector_with(&[(44, 1)]), none, none],
-            (layout, 0),
-        ),
-        (
-            8203,
-            [mark, sector_with(&[(0, 1), (3, 0x80), (4, 1)]), none, none],
-            (layout, 0),
-        ),
-        (
-            8203,
-            [mark, sector_with(&[(3, 0x80), (11, 0x80)]), none, none],
-            (None, 0),
-        ),
-        (
-            8203,
-            [
-                mark,
-                sector_with(&[(3, 0x80), (4, 1), (11, 0x80), (12, 1)]),
-                none,
-                none,
-            ],
-            (layout, 0),
-        ),
-        // 1,024 pages, home 1 of 1, home 0 twice and home 0 once. One byte of the gate changed closes it.
-        (8203, [mark, file, gate, many], (journal, 0)),
-        (
-            8203,
-            [mark, file, gate, sector_with(&[(0, 1), (4, 1)])],
-            (journal, 0),
-        ),
-        (
-            8203,
-            [mark, file, gate, sector_with(&[(0, 2)])],
-            (journal, 0),
-        ),
-        (8203, [mark, file, gate, sector_with(&[(0, 1)])], (None, 9)),
-        (8203, [mark, file, closed, many], (None, 0)),
+/// Sees how a store of so many sectors, of these sectors 0 to 3 and of a page of `5a` in the body opens, and how many sectors are then written.
+fn check_opening(
+    rt: &(impl AllocGlobal + Abort),
+    sectors: u64,
+    [first, second, third, fourth]: [[u8; 512]; 4],
+    wanted: (Option<OpenFault>, u64),
+) {
+    let changes = [
+        (0, first),
+        (1, second),
+        (2, third),
+        (3, fourth),
+        (11, [0x5a; 512]),
     ];
-    for (sectors, [first, second, third, fourth], wanted) in rows {
-        let changes = [
-            (0, first),
-            (1, second),
-            (2, third),
-            (3, fourth),
-            (11, [0x5a; 512]),
-        ];
-        let (fault, disk) = match FileStore::open(image(rt.alloc(), sectors, &changes)?) {
-            Ok(store) => (None, store.into_disk()),
-            Err((fault, disk)) => (Some(fault), disk),
-        };
-        equal(&rt, (fault, disk.writes()), wanted);
-    }
-    Ok(())
+    let (fault, disk) = match FileStore::open(image(rt, sectors, &changes)) {
+        Ok(store) => (None, store.into_disk()),
+        Err((fault, disk)) => (Some(fault), disk),
+    };
+    equal(rt, (fault, disk.writes()), wanted);
+}
+
+#[test]
+fn refuses_layouts_and_journals(rt: HostRuntime) {
+    let none = [0; 512];
+    let mark = sector(b"FAMSYNC2", &[]);
+    let gate = sector(b"GATEOPEN", &[]);
+    let torn = sector(b"FAMSYNC2", &[(511, 0)]);
+    let closed = sector(b"GATEOPEN", &[(100, 0)]);
+    let (old, other) = (sector(b"FAMSYNC1", &[]), sector(b"FAMSYNC3", &[]));
+    let zero = &[0; 8];
+    let file = sector(zero, &[(3, 0x80), (5, 0x10)]);
+    let many = sector(zero, &[(1, 4)]);
+    let layout = (Some(OpenFault::BadLayout), 0);
+    let journal = (Some(OpenFault::BadJournal), 0);
+    check_opening(&rt, 8195, [mark, none, none, none], (None, 0));
+    check_opening(&rt, 8194, [mark, none, none, none], layout);
+    check_opening(&rt, 8195, [torn, none, none, none], layout);
+    check_opening(&rt, 8203, [old, file, gate, many], layout);
+    check_opening(&rt, 8203, [other, file, gate, many], layout);
+    // An entry of no file, a file of one byte in home 1 of 1, and two of none and of one byte in home 0.
+    let empty = sector(zero, &[(44, 1)]);
+    check_opening(&rt, 8195, [mark, empty, none, none], layout);
+    let behind = sector(zero, &[(0, 1), (3, 0x80), (4, 1)]);
+    check_opening(&rt, 8203, [mark, behind, none, none], layout);
+    let both = sector(zero, &[(3, 0x80), (11, 0x80)]);
+    check_opening(&rt, 8203, [mark, both, none, none], (None, 0));
+    let both = sector(zero, &[(3, 0x80), (4, 1), (11, 0x80), (12, 1)]);
+    check_opening(&rt, 8203, [mark, both, none, none], layout);
+    // 1,024 pages, home 1 of 1, home 0 twice and home 0 once. One byte of the gate changed closes it.
+    check_opening(&rt, 8203, [mark, file, gate, many], journal);
+    let behind = sector(zero, &[(0, 1), (4, 1)]);
+    check_opening(&rt, 8203, [mark, file, gate, behind], journal);
+    let twice = sector(zero, &[(0, 2)]);
+    check_opening(&rt, 8203, [mark, file, gate, twice], journal);
+    let once = sector(zero, &[(0, 1)]);
+    check_opening(&rt, 8203, [mark, file, gate, once], (None, 9));
+    check_opening(&rt, 8203, [mark, file, closed, many], (None, 0));
 }

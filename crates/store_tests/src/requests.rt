@@ -3,38 +3,37 @@ use crate::bench::{equal, opened};
 use batches::{ServeEnd, serve};
 use disk_model::SimDisk;
 use file_store::{FileSource, format};
-use std::alloc::Global;
-use std::test::Fail;
+use std::process::Abort;
 
 /// How requests over a writable file and a read-only one end, of a page of zeros each, and the replies.
-fn served(alloc: Global, requests: &[u8]) -> Result<(ServeEnd, Vec<u8>), Fail> {
-    let mut disk = SimDisk::new(alloc, 8211)?;
+fn served(rt: &(impl AllocGlobal + Abort), requests: &[u8]) -> (ServeEnd, Vec<u8>) {
+    let mut disk = SimDisk::new(rt.alloc(), 8211).expect(rt, "memory");
     let file = |read_only| FileSource::<&[u8]> {
         read_only,
         length: 4096,
         bytes: None,
     };
-    format(&mut disk, &mut [file(false), file(true)])?;
-    let mut store = opened(alloc, disk)?;
+    format(&mut disk, &mut [file(false), file(true)]).expect(rt, "a store");
+    let mut store = opened(rt, disk);
     let mut input = requests;
-    let mut output = Vec::new(alloc);
-    let end = serve(alloc, &mut store, &mut input, &mut output)?;
-    Ok((end, output))
+    let mut output = Vec::new(rt.alloc());
+    let end = serve(rt.alloc(), &mut store, &mut input, &mut output).expect(rt, "memory");
+    (end, output)
 }
 
 /// A text, and the byte of a page behind it, if there is one.
 type Part = (&'static [u8], Option<u8>);
 
 /// These texts and pages one after another.
-fn joined(alloc: Global, parts: &[Part]) -> Result<Vec<u8>, Fail> {
-    let mut all = Vec::new(alloc);
+fn joined(rt: &(impl AllocGlobal + Abort), parts: &[Part]) -> Vec<u8> {
+    let mut all = Vec::new(rt.alloc());
     for (text, byte) in parts {
-        all.extend_from_slice(*text)?;
+        all.extend_from_slice(*text).expect(rt, "memory");
         if let Some(byte) = byte {
-            all.extend_from_slice(&[*byte; 4096])?;
+            all.extend_from_slice(&[*byte; 4096]).expect(rt, "memory");
         }
     }
-    Ok(all)
+    all
 }
 
 const REQUESTS: &[Part] = &[
@@ -61,13 +60,12 @@ const ROWS: [(&[Part], ServeEnd, &[Part]); 3] = [
 ];
 
 #[test]
-fn batches_are_durable_refused_or_cut(rt: HostRuntime) -> Result<(), Fail> {
+fn batches_are_durable_refused_or_cut(rt: HostRuntime) {
     for (requests, wanted, replies) in ROWS {
-        let requests = joined(rt.alloc(), requests)?;
-        let replies = joined(rt.alloc(), replies)?;
-        let (end, output) = served(rt.alloc(), requests.as_slice())?;
+        let requests = joined(&rt, requests);
+        let replies = joined(&rt, replies);
+        let (end, output) = served(&rt, requests.as_slice());
         equal(&rt, end, wanted);
         equal(&rt, output.as_slice(), replies.as_slice());
     }
-    Ok(())
 }
