@@ -1,6 +1,7 @@
 //! What is refused, and how long plans are.
 use super::client::{
-    Client, Request, carry_out, equal, expect, lent_of, made, new_store, rows_of, zeros,
+    Client, LARGE, Request, carry_out, equal, expect, lent_of, made, new_store, pages_between,
+    rows_of, zeros,
 };
 use std::process::Abort;
 use stores::NewStore;
@@ -11,7 +12,7 @@ const FIRST: FilePage = FilePage { file: 0, page: 0 };
 
 #[test]
 fn no_store_and_bad_pages_are_refused(rt: HostRuntime) {
-    let mut client = Client::new(&rt);
+    let mut client = Client::new(&rt, LARGE);
     for request in [Request::Open, Request::Tidy] {
         equal(&rt, client.ask(&[], request), Err(Refusal::BadLayout));
     }
@@ -43,7 +44,7 @@ fn the_shortest_list_is_the_room(rt: HostRuntime) {
         ([13, 13], [11, 13], Err(Refusal::Device)),
         ([13, 13], [13, 0], Err(Refusal::Device)),
     ] {
-        let mut client = Client::with_room(&rt, [scratch, plan]);
+        let mut client = Client::new(&rt, [scratch, plan]);
         let request = Request::Commit(&[FIRST], lent.as_slice());
         equal(&rt, client.ask(image.as_slice(), request), wanted);
     }
@@ -54,11 +55,8 @@ fn the_shortest_list_is_the_room(rt: HostRuntime) {
 fn the_largest_plan_of_a_journal_is_short(rt: HostRuntime) {
     let mut files = [zeros(1023 * 4096, false)];
     let mut disk = made(&rt, NewStore::Journal, &mut files, 0);
-    let mut client = Client::new(&rt);
-    let mut pages = Vec::new(rt.alloc());
-    for page in 0..1023 {
-        pages.push(FilePage { file: 0, page }).expect(&rt, "memory");
-    }
+    let mut client = Client::new(&rt, LARGE);
+    let pages = pages_between(&rt, 0, 1023);
     let bytes = Vec::from_elem(rt.alloc(), [9; 4096], 1023).expect(&rt, "memory");
     let lent = lent_of(&rt, bytes.as_slice());
     for calls in [1034, 2060] {

@@ -3,6 +3,7 @@ ghost use Rattle.stores.specs.NewStores.{IsSizedNew};
 
 use disk_model::{SectorDisk, SimDisk, WriteZeros};
 use file_store::FileSource;
+use pool_growth::FileSize;
 use std::alloc::Global;
 use std::fmt::Debug;
 use std::process::Abort;
@@ -75,9 +76,6 @@ pub(crate) fn lent_of<'a>(
     }
     lent
 }
-
-/// So many calls a client has room for.
-const ROOM: usize = 16384;
 
 /// A plan, in vectors since its rows are eight megabytes.
 #[derive(Drop)]
@@ -214,15 +212,43 @@ pub(crate) const NO_FILE: Seen = Seen {
     bytes: [0; 5],
 };
 
-/// Whether a page has so many times its first byte, and zeros behind.
-fn is_filled(page: &[u8; 4096], inside: usize) -> bool {
-    for at in 0..4096 {
-        if page[at] != if at < inside { page[0] } else { 0 } {
-            return false;
-        }
+/// What is seen of a file of so many bytes.
+pub(crate) fn file_of(length: u64, bytes: &[u8; 5]) -> Seen {
+    Seen {
+        length: Some(length),
+        bytes: *bytes,
     }
-    true
 }
+
+/// A file of so many bytes.
+pub(crate) fn long(file: u32, length: u64) -> FileSize {
+    FileSize {
+        file,
+        is_there: 1,
+        length,
+    }
+}
+
+/// The pages of file 0 from one up to another, which is none of them.
+pub(crate) fn pages_between(
+    rt: &(impl AllocGlobal + Abort),
+    first: u32,
+    end: u32,
+) -> Vec<FilePage> {
+    let mut pages = Vec::new(rt.alloc());
+    for page in first..end {
+        pages.push(FilePage { file: 0, page }).expect(rt, "memory");
+    }
+    pages
+}
+
+/// So many places for calls and for rows to work in, and for those of a plan.
+type Room = [[usize; 2]; 2];
+
+/// Room for long plans, and for short ones.
+pub(crate) const LARGE: Room = [[16384; 2]; 2];
+
+pub(crate) const SMALL: Room = [[64; 2]; 2];
 
 /// Room for plans.
 #[derive(Drop)]
@@ -234,20 +260,7 @@ pub(crate) struct Client {
 }
 
 impl Client {
-    pub(crate) fn new(rt: &(impl AllocGlobal + Abort)) -> Client {
-        Client::with_room(rt, [[ROOM; 2]; 2])
-    }
-
-    /// With room for short plans.
-    pub(crate) fn small(rt: &(impl AllocGlobal + Abort)) -> Client {
-        Client::with_room(rt, [[64; 2]; 2])
-    }
-
-    /// With so many places for calls and for rows to work in, and for those of a plan.
-    pub(crate) fn with_room(
-        rt: &(impl AllocGlobal + Abort),
-        [scratch, plan]: [[usize; 2]; 2],
-    ) -> Client {
+    pub(crate) fn new(rt: &(impl AllocGlobal + Abort), [scratch, plan]: Room) -> Client {
         Client {
             alloc: rt.alloc(),
             scratch: blank(rt, scratch),
@@ -304,7 +317,10 @@ impl Client {
         let mut bytes = [255; 4096];
         let read = read_page(self.alloc, image, self.scratch.lent(), page, &mut bytes);
         read.expect(rt, "a page");
-        expect(rt, is_filled(&bytes, inside), "a page of other bytes");
+        for at in 0..4096 {
+            let wanted = if at < inside { bytes[0] } else { 0 };
+            expect(rt, bytes[at] == wanted, "a page of other bytes");
+        }
         bytes[0]
     }
 

@@ -1,7 +1,10 @@
 //! Plans of commits and resizes of many pages, and of homes at idle, for stores of layout 4.
 ghost use Rattle.directories.specs.Kinds.{IsMapSize};
 
-use super::client::{Client, Request, carry_out, equal, expect, lent_of, made, rows_of, zeros};
+use super::client::{
+    Client, LARGE, Request, carry_out, equal, expect, lent_of, long, made, pages_between, rows_of,
+    zeros,
+};
 use disk_model::SimDisk;
 use pool_growth::FileSize;
 use std::process::Abort;
@@ -27,7 +30,7 @@ impl Bench {
         let mut files = [zeros(PAGES * 4096, false)];
         Bench {
             disk: made(rt, NewStore::Pool(blocks), &mut files, 0),
-            client: Client::new(rt),
+            client: Client::new(rt, LARGE),
         }
     }
 
@@ -71,45 +74,23 @@ impl Bench {
         expect(rt, is_done, "a plan that can't be carried out");
     }
 
-    /// Plans that files get sizes, with pages of theirs.
-    fn resize(
-        &mut self,
-        rt: &(impl AllocGlobal + Abort),
-        updates: SizeUpdates<'_>,
-    ) -> Result<usize, ResizeRefusal> {
-        let image = rows_of(rt, &self.disk);
-        self.client.resize(image.as_slice(), updates)
-    }
-
-    /// Plans that, and carries it out. So many of its calls write a row, sync, write a page that is lent, and copy one.
+    /// Plans that files get sizes, with pages of theirs, and carries it out. So many of its calls write a row, sync, write a page that is lent, and copy one.
     fn resized(
         &mut self,
         rt: &(impl AllocGlobal + Abort),
         updates: SizeUpdates<'_>,
         wanted: [usize; 4],
     ) {
-        let answer = self.resize(rt, updates);
+        let image = rows_of(rt, &self.disk);
+        let answer = self.client.resize(image.as_slice(), updates);
         self.carry_plan(rt, answer.ok(), updates.bytes, wanted);
     }
 
-    /// The byte that fills a page of the file.
+    /// The byte that fills a page of file 0.
     fn byte_of(&mut self, rt: &(impl AllocGlobal + Abort), page: u32) -> u8 {
-        self.byte_at(rt, FilePage { file: 0, page })
-    }
-
-    /// The byte that fills a page.
-    fn byte_at(&mut self, rt: &(impl AllocGlobal + Abort), page: FilePage) -> u8 {
         let image = rows_of(rt, &self.disk);
-        self.client.byte(rt, image.as_slice(), page, 4096)
-    }
-}
-
-/// The file with so many pages, the last of which is full.
-fn long(pages: u32) -> FileSize {
-    FileSize {
-        file: 0,
-        is_there: 1,
-        length: u64::from(pages) * 4096,
+        self.client
+            .byte(rt, image.as_slice(), FilePage { file: 0, page }, 4096)
     }
 }
 
@@ -125,20 +106,6 @@ fn grown<'a>(
         pages: &[],
         bytes,
     }
-}
-
-/// The first pages of the file, in rising order.
-fn first_pages(rt: &(impl AllocGlobal + Abort), count: u32) -> Vec<FilePage> {
-    pages_between(rt, 0, count)
-}
-
-/// The pages of the file from one up to another, which is none of them.
-fn pages_between(rt: &(impl AllocGlobal + Abort), first: u32, end: u32) -> Vec<FilePage> {
-    let mut pages = Vec::new(rt.alloc());
-    for page in first..end {
-        pages.push(FilePage { file: 0, page }).expect(rt, "memory");
-    }
-    pages
 }
 
 /// So many pages of this byte, but that each third one, from the second on, is of the byte 1.
@@ -165,7 +132,7 @@ fn numbered_pages(rt: &(impl AllocGlobal + Abort), count: u8) -> Vec<[u8; 4096]>
 fn each_page_in_rising_order_takes_a_call(rt: HostRuntime) {
     let mut bench = Bench::new(&rt, 3);
     bench.carry(&rt, Request::Open, &[], [0; 4]);
-    let pages = first_pages(&rt, PAGES);
+    let pages = pages_between(&rt, 0, PAGES);
     let bytes = Vec::from_elem(rt.alloc(), [9; 4096], pages.len()).expect(&rt, "memory");
     bench.commit(&rt, pages.as_slice(), bytes.as_slice(), [25, 2, 1100, 0]);
     equal(&rt, bench.byte_of(&rt, 1099), 9);
@@ -194,22 +161,24 @@ fn pages_of_a_file_that_grew_take_a_call_each(rt: HostRuntime) {
     let mut files = [zeros(40960, false), zeros(40960, false)];
     let mut bench = Bench {
         disk: made(&rt, NewStore::Pool(1), &mut files, 10),
-        client: Client::new(&rt),
+        client: Client::new(&rt, LARGE),
     };
     let bytes = numbered_pages(&rt, 10);
     let lent = lent_of(&rt, bytes.as_slice());
     let new = pages_between(&rt, 10, 20);
-    let sizes = [long(20)];
+    let sizes = [long(0, 20 * 4096)];
     let updates = grown(&sizes, new.as_slice(), lent.as_slice());
     bench.resized(&rt, updates, [17, 2, 10, 0]);
-    let mut pages = first_pages(&rt, 20);
+    let mut pages = pages_between(&rt, 0, 20);
     for page in 0..10 {
         pages.push(FilePage { file: 1, page }).expect(&rt, "memory");
     }
     let bytes = numbered_pages(&rt, 30);
     bench.commit(&rt, pages.as_slice(), bytes.as_slice(), [9, 2, 30, 0]);
+    let image = rows_of(&rt, &bench.disk);
     for (page, bytes) in pages.iter().zip(&bytes) {
-        equal(&rt, bench.byte_at(&rt, *page), bytes[0]);
+        let byte = bench.client.byte(&rt, image.as_slice(), *page, 4096);
+        equal(&rt, byte, bytes[0]);
     }
 }
 
@@ -217,10 +186,10 @@ fn pages_of_a_file_that_grew_take_a_call_each(rt: HostRuntime) {
 #[test]
 fn pages_go_home_in_a_call_each(rt: HostRuntime) {
     let mut bench = Bench::new(&rt, 1);
-    let pages = first_pages(&rt, 1000);
+    let pages = pages_between(&rt, 0, 1000);
     let bytes = Vec::from_elem(rt.alloc(), [7; 4096], 1000).expect(&rt, "memory");
     bench.commit(&rt, pages.as_slice(), bytes.as_slice(), [9, 2, 1000, 0]);
-    let first = first_pages(&rt, 2);
+    let first = pages_between(&rt, 0, 2);
     bench.commit(
         &rt,
         first.as_slice(),
@@ -237,7 +206,7 @@ fn pages_go_home_in_a_call_each(rt: HostRuntime) {
 fn a_tidy_brings_all_pages_home_in_two_syncs(rt: HostRuntime) {
     let mut bench = Bench::new(&rt, 1);
     bench.carry(&rt, Request::Tidy, &[], [0; 4]);
-    let pages = first_pages(&rt, 3);
+    let pages = pages_between(&rt, 0, 3);
     let bytes = [[1; 4096], [2; 4096], [3; 4096]];
     bench.commit(&rt, pages.as_slice(), &bytes, [9, 2, 3, 0]);
     bench.carry(&rt, Request::Tidy, &[], [9, 2, 0, 3]);
@@ -253,7 +222,7 @@ fn a_tidy_brings_all_pages_home_in_two_syncs(rt: HostRuntime) {
 #[test]
 fn a_commit_of_all_slots_makes_room_itself(rt: HostRuntime) {
     let mut bench = Bench::new(&rt, 1);
-    let pages = first_pages(&rt, 1008);
+    let pages = pages_between(&rt, 0, 1008);
     for (byte, wanted) in [(7, [9, 2, 1008, 0]), (8, [18, 4, 1008, 1008])] {
         let bytes = pages_of(&rt, byte, 1008);
         bench.commit(&rt, pages.as_slice(), bytes.as_slice(), wanted);
@@ -261,7 +230,7 @@ fn a_commit_of_all_slots_makes_room_itself(rt: HostRuntime) {
             equal(&rt, bench.byte_of(&rt, page), byte);
         }
     }
-    let more = first_pages(&rt, 1009);
+    let more = pages_between(&rt, 0, 1009);
     let bytes = pages_of(&rt, 9, 1009);
     let lent = lent_of(&rt, bytes.as_slice());
     let image = rows_of(&rt, &bench.disk);
@@ -275,14 +244,14 @@ fn a_commit_of_all_slots_makes_room_itself(rt: HostRuntime) {
 #[test]
 fn a_resize_makes_room_itself(rt: HostRuntime) {
     let mut bench = Bench::new(&rt, 1);
-    let pages = first_pages(&rt, 1000);
+    let pages = pages_between(&rt, 0, 1000);
     let bytes = Vec::from_elem(rt.alloc(), [7; 4096], 1000).expect(&rt, "memory");
     bench.commit(&rt, pages.as_slice(), bytes.as_slice(), [9, 2, 1000, 0]);
-    let pages = first_pages(&rt, 8);
+    let pages = pages_between(&rt, 0, 8);
     let bytes = pages_of(&rt, 8, 8);
     let lent = lent_of(&rt, bytes.as_slice());
     let updates = SizeUpdates {
-        sizes: &[long(1050)],
+        sizes: &[long(0, 1050 * 4096)],
         fresh: &[],
         pages: pages.as_slice(),
         bytes: lent.as_slice(),
@@ -291,16 +260,17 @@ fn a_resize_makes_room_itself(rt: HostRuntime) {
     for (page, byte) in [(0, 8), (1, 1), (7, 1), (8, 7), (999, 7), (1000, 0)] {
         equal(&rt, bench.byte_of(&rt, page), byte);
     }
-    let more = first_pages(&rt, 1008);
+    let more = pages_between(&rt, 0, 1008);
     let bytes = pages_of(&rt, 9, 1008);
     let lent = lent_of(&rt, bytes.as_slice());
     let updates = SizeUpdates {
-        sizes: &[long(1049)],
+        sizes: &[long(0, 1049 * 4096)],
         fresh: &[],
         pages: more.as_slice(),
         bytes: lent.as_slice(),
     };
-    let answer = bench.resize(&rt, updates);
+    let image = rows_of(&rt, &bench.disk);
+    let answer = bench.client.resize(image.as_slice(), updates);
     equal(&rt, answer, Err(ResizeRefusal::BadPages));
 }
 
@@ -311,16 +281,16 @@ fn new_pages_that_are_not_given_take_one_call(rt: HostRuntime) {
     let mut files = [zeros(40960, false)];
     let mut bench = Bench {
         disk: made(&rt, NewStore::Pool(1), &mut files, 1000),
-        client: Client::new(&rt),
+        client: Client::new(&rt, LARGE),
     };
     let all = pages_between(&rt, 10, 1010);
     let bytes = Vec::from_elem(rt.alloc(), [7; 4096], 1000).expect(&rt, "memory");
     let lent = lent_of(&rt, bytes.as_slice());
-    let sizes = [long(1010)];
+    let sizes = [long(0, 1010 * 4096)];
     let updates = grown(&sizes, all.as_slice(), lent.as_slice());
     bench.resized(&rt, updates, [17, 3, 1000, 0]);
     equal(&rt, bench.byte_of(&rt, 1009), 7);
-    bench.resized(&rt, grown(&[long(10)], &[], &[]), [17, 2, 0, 0]);
+    bench.resized(&rt, grown(&[long(0, 10 * 4096)], &[], &[]), [17, 2, 0, 0]);
     let bytes = [[8; 4096]];
     let lent = lent_of(&rt, &bytes);
     let one = [FilePage { file: 0, page: 555 }];

@@ -1,6 +1,7 @@
 //! Plans that give files of a store of layout 4 other lengths.
 use super::client::{
-    Client, NO_FILE, Seen, carry_out, equal, expect, lent_of, made, new_store, rows_of,
+    Client, NO_FILE, SMALL, carry_out, equal, expect, file_of, lent_of, long, made, new_store,
+    rows_of,
 };
 use super::stops::stopped_everywhere;
 use disk_model::SimDisk;
@@ -10,28 +11,6 @@ use std::process::Abort;
 use stores::NewStore;
 use sync_plans::{ResizeRefusal, SizeUpdates};
 use vm_types::FilePage;
-
-/// A file of so many bytes.
-fn long(file: u32, length: u64) -> FileSize {
-    FileSize {
-        file,
-        is_there: 1,
-        length,
-    }
-}
-
-/// No file of this number.
-fn gone(file: u32) -> FileSize {
-    FileSize {
-        file,
-        is_there: 0,
-        length: 0,
-    }
-}
-
-fn page(file: u16, page: u32) -> FilePage {
-    FilePage { file, page }
-}
 
 /// A file of one byte, so many times.
 fn of(bytes: &'static [u8], length: u32) -> FileSource<&'static [u8]> {
@@ -52,12 +31,17 @@ fn store(rt: &(impl AllocGlobal + Abort)) -> SimDisk {
     made(rt, NewStore::Pool(1), &mut files, 16)
 }
 
-/// What is seen of a file of so many bytes.
-fn seen(length: u64, bytes: &[u8; 5]) -> Seen {
-    Seen {
-        length: Some(length),
-        bytes: *bytes,
+/// No file of this number.
+fn gone(file: u32) -> FileSize {
+    FileSize {
+        file,
+        is_there: 0,
+        length: 0,
     }
+}
+
+fn page(file: u16, page: u32) -> FilePage {
+    FilePage { file, page }
 }
 
 /// One file gets three pages more, one is cut within its second page, one goes, and one comes. The new pages come first.
@@ -66,16 +50,16 @@ fn seen(length: u64, bytes: &[u8; 5]) -> Seen {
 #[test]
 fn files_get_other_lengths_all_at_once(rt: HostRuntime) {
     let before = [
-        seen(5000, b"aa\0\0\0"),
-        seen(12288, b"bbb\0\0"),
-        seen(1, b"c\0\0\0\0"),
+        file_of(5000, b"aa\0\0\0"),
+        file_of(12288, b"bbb\0\0"),
+        file_of(1, b"c\0\0\0\0"),
         NO_FILE,
     ];
     let after = [
-        seen(20480, b"aidef"),
-        seen(4100, b"jb\0\0\0"),
+        file_of(20480, b"aidef"),
+        file_of(4100, b"jb\0\0\0"),
         NO_FILE,
-        seen(4196, b"gh\0\0\0"),
+        file_of(4196, b"gh\0\0\0"),
     ];
     let bytes = b"defghij".map(|byte| [byte; 4096]);
     let lent = lent_of(&rt, &bytes);
@@ -85,7 +69,7 @@ fn files_get_other_lengths_all_at_once(rt: HostRuntime) {
         pages: &[page(0, 1), page(1, 0)],
         bytes: lent.as_slice(),
     };
-    let mut client = Client::small(&rt);
+    let mut client = Client::new(&rt, SMALL);
     let mut disk = store(&rt);
     let image = rows_of(&rt, &disk);
     equal(&rt, client.files(&rt, image.as_slice()), before);
@@ -128,7 +112,7 @@ fn refused(
     asks: &[Ask<'_>],
     wanted: ResizeRefusal,
 ) {
-    let mut client = Client::small(rt);
+    let mut client = Client::new(rt, SMALL);
     for ask in asks {
         let answer = asked(rt, &mut client, image, *ask);
         equal(rt, answer, Err(wanted));
@@ -194,7 +178,7 @@ fn sizes_alone_take_the_directory(rt: HostRuntime) {
         ([[28, 28], [26, 28]], Err(ResizeRefusal::Device)),
         ([[28, 28], [28, 0]], Err(ResizeRefusal::Device)),
     ] {
-        let mut client = Client::with_room(&rt, room);
+        let mut client = Client::new(&rt, room);
         let sizes = [long(0, 100), gone(2), long(63, 0)];
         let answer = asked(&rt, &mut client, image.as_slice(), (&sizes, &[], &[], 0));
         equal(&rt, answer, wanted);

@@ -1,8 +1,7 @@
 //! Plans that are stopped before each of their calls, with torn sectors, and opened again.
-ghost use Rattle.stores.specs.NewStores.{IsSizedNew};
-
 use super::client::{
-    Client, NO_FILE, Plan, Request, Seen, carry_out, equal, expect, lent_of, new_store, rows_of,
+    Client, NO_FILE, Plan, Request, SMALL, Seen, carry_out, equal, expect, file_of, lent_of,
+    new_store, rows_of,
 };
 use disk_model::{SectorDisk, SimDisk};
 use std::process::Abort;
@@ -20,16 +19,29 @@ const PLACES: [FilePage; 4] = [
 
 /// What is seen of its files where these bytes fill the pages.
 fn filled([first, second, locked, last]: [u8; 4]) -> [Seen; 4] {
-    let seen = |length, bytes| Seen {
-        length: Some(length),
-        bytes,
-    };
     [
-        seen(5000, [first, second, 0, 0, 0]),
-        seen(1, [locked, 0, 0, 0, 0]),
-        seen(4096, [last, 0, 0, 0, 0]),
+        file_of(5000, &[first, second, 0, 0, 0]),
+        file_of(1, &[locked, 0, 0, 0, 0]),
+        file_of(4096, &[last, 0, 0, 0, 0]),
         NO_FILE,
     ]
+}
+
+/// The bytes of that number: zeros, ones, half of the words that open the gate, or all of them.
+fn filling_of(number: usize) -> [u8; 512] {
+    if number == 2 {
+        return [0xff; 512];
+    }
+    let words = match number {
+        1 => 0,
+        3 => 256,
+        _ => 512,
+    };
+    let mut filling = [0; 512];
+    for i in 0..words {
+        filling[i] = b"GATEOPEN"[i % 8];
+    }
+    filling
 }
 
 /// The device after a stop within a plan. What each unsynced sector holds goes by the number: the old bytes, zeros, ones,
@@ -40,15 +52,7 @@ fn left_with(
     plan: &Plan,
     number: usize,
 ) -> SimDisk {
-    let mut filling = [0; 512];
-    for i in 0..512 {
-        filling[i] = match number {
-            1 => 0,
-            2 => 0xff,
-            3 if i >= 256 => 0,
-            _ => b"GATEOPEN"[i % 8],
-        };
-    }
+    let mut filling = filling_of(number);
     let mut chosen = Vec::new(rt.alloc());
     if number > 0 {
         for call in plan.calls.iter().take(plan.used) {
@@ -78,7 +82,7 @@ pub(crate) fn stopped_everywhere(
     [before, after]: [[Seen; 4]; 2],
     least: usize,
 ) {
-    let mut looker = Client::small(rt);
+    let mut looker = Client::new(rt, SMALL);
     let mut stopped = left_with(rt, disk, plan, 0);
     let mut fillings = least;
     for count in 0..=plan.used {
@@ -119,7 +123,7 @@ fn committed(
     let lent = lent_of(rt, bytes.as_slice());
     let image = rows_of(rt, disk);
     let request = Request::Commit(pages.as_slice(), lent.as_slice());
-    let mut client = Client::small(rt);
+    let mut client = Client::new(rt, SMALL);
     let answer = client.ask(image.as_slice(), request);
     let plan = &client.plan;
     equal(rt, (answer, plan.counts()), (Ok(plan.used), wanted));
@@ -145,39 +149,27 @@ const POOL: &[([u8; 4], [usize; 4])] = &[
     ([4, 6, 0, 9], [9, 2, 1, 0]),
 ];
 
-/// Stops commits to a new store, and at the end its opening, and that its pages are brought home, each of so many calls of each kind.
-fn stopped_in_a_row(
-    rt: &(impl AllocGlobal + Abort),
-    store: NewStore,
-    commits: &[([u8; 4], [usize; 4])],
-    calls: [[usize; 4]; 2],
-)
-    requires { IsSizedNew store }
-{
-    let mut disk = new_store(rt, store);
-    let mut files = [0; 4];
-    for (after, wanted) in commits {
-        committed(rt, &mut disk, files, *after, *wanted);
-        files = *after;
-    }
-    let mut client = Client::small(rt);
-    let image = rows_of(rt, &disk);
-    for (request, wanted) in [(Request::Open, calls[0]), (Request::Tidy, calls[1])] {
-        let answer = client.ask(image.as_slice(), request);
-        let plan = &client.plan;
-        equal(rt, (answer, plan.counts()), (Ok(plan.used), wanted));
-        stopped_everywhere(rt, &disk, plan, &[], [filled(files); 2], 1);
-    }
-}
-
-// An open journal is carried out whichever is asked: three pages, the gate, and a sync behind each of both.
+// Each of the commits to a new store is stopped, and at the end its opening, and that its pages are brought home, each of so many calls of each kind. An open journal is
+// carried out whichever is asked: three pages, the gate, and a sync behind each of both.
 #[test]
-fn a_plan_for_a_journal_is_whole_or_nothing(rt: HostRuntime) {
-    stopped_in_a_row(&rt, NewStore::Journal, JOURNAL, [[1, 2, 0, 3]; 2]);
-}
-
-#[test]
-fn a_plan_for_a_pool_is_whole_or_nothing(rt: HostRuntime) {
-    let calls = [[9, 2, 0, 0], [9, 2, 0, 3]];
-    stopped_in_a_row(&rt, NewStore::Pool(1), POOL, calls);
+fn a_plan_is_whole_or_nothing(rt: HostRuntime) {
+    for (store, commits, [open, tidy]) in [
+        (NewStore::Journal, JOURNAL, [[1, 2, 0, 3]; 2]),
+        (NewStore::Pool(1), POOL, [[9, 2, 0, 0], [9, 2, 0, 3]]),
+    ] {
+        let mut disk = new_store(&rt, store);
+        let mut files = [0; 4];
+        for (after, wanted) in commits {
+            committed(&rt, &mut disk, files, *after, *wanted);
+            files = *after;
+        }
+        let mut client = Client::new(&rt, SMALL);
+        let image = rows_of(&rt, &disk);
+        for (request, wanted) in [(Request::Open, open), (Request::Tidy, tidy)] {
+            let answer = client.ask(image.as_slice(), request);
+            let plan = &client.plan;
+            equal(&rt, (answer, plan.counts()), (Ok(plan.used), wanted));
+            stopped_everywhere(&rt, &disk, plan, &[], [filled(files); 2], 1);
+        }
+    }
 }
